@@ -618,7 +618,7 @@ module _ (size e : Control) (a : Site) (is : IsSite (expand_rule size e) a) (x :
 
 pub expand_is_lawful : (size e : Control) → IsLawful (expand_rule size e)
 expand_is_lawful size e = record {
-  replaces = λ a is met. (
+  replaces = λ a is versions met. (
       let o = expandable (old a.spot) in
       let make : Allocated → Block = λ y. expanded size e y.buffer y.rest in
       let d = made_of o make a.draft is.drafted in

@@ -356,7 +356,7 @@ lifted_stands s is branch (Call f args) i h was before x behind parts dims but =
 
 pub lift_is_lawful : (branch : Branch) (k : ℕ) → IsLawful (lift_rule branch k)
 lift_is_lawful branch k = record {
-  replaces = λ a is met. (
+  replaces = λ a is versions met. (
       let o = lifting_of branch k (old a.spot) in
       let d = made_of o lifted a.draft is.drafted in
       let l = d.of in

@@ -237,7 +237,7 @@ module _ (a : Site) (is : IsSite inline_rule a) where
       (at_once ∙ ap (λ b. Some b) drafted.made) may_there)
 
 pub inline_is_lawful : IsLawful inline_rule
-inline_is_lawful = record { replaces = λ a is met. stands a is }
+inline_is_lawful = record { replaces = λ a is versions met. stands a is }
 
 pub inline_is_carrying : IsCarrying inline_rule
 inline_is_carrying = record { carries = λ a is. tt; apart = λ a is. refl }

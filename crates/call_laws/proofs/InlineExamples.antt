@@ -49,6 +49,7 @@ target k args =
     let p = col (only (Call k args)) in
     record {
       unit = record { procedures = fill ∷ set ∷ p ∷ []; fields = []; memories = [] };
+      origins = [];
       number = 2;
       proc = p;
     }

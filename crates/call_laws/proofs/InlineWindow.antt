@@ -429,7 +429,7 @@ module _ (a : Site) (is : IsSite inline_window_rule a) where
       (moved_up (around s) v (behind_first (old s))))
 
 pub inline_window_is_lawful : IsLawful inline_window_rule
-inline_window_is_lawful = record { replaces = λ a is met. stands a is }
+inline_window_is_lawful = record { replaces = λ a is versions met. stands a is }
 
 pub inline_window_is_carrying : IsCarrying inline_window_rule
 inline_window_is_carrying = record { carries = λ a is. goes a is; apart = λ a is. refl }

@@ -3,6 +3,7 @@ use Rattle.std.proofs.Common.{◌≡◌, ◌==◌, ◌<◌, ◌≤◌, ◌+◌, 
 use Rattle.std.proofs.Common.{List, [], ◌∷◌, ◌++◌, length, Option, Some, None, refl, sym, ap, ◌∙◌}
 use Rattle.std.proofs.Common.{◌⊎◌, inl, inr, subst, true≢false, eqb-true, eq-eqb, arith}
 use Rattle.std.specs.Prelude.{Contains, slice_get, slice_index_or, if◌then◌else◌}
+use Rattle.std.proofs.Math.Nat.{not-suc-le-zero}
 use Rattle.std.proofs.lemmas.List.Elements.{Contains-append_right, Contains-append_cases}
 use Rattle.exo_tree.specs.Tree.{Procedure, Program}
 use Rattle.exo_meaning.specs.Value.{IsRefinedBy}
@@ -18,7 +19,7 @@ use Rattle.config_state.specs.FieldSets.{fields_from, fields_where}
 use Rattle.config_laws.specs.FieldRule.{is_listed}
 use Rattle.config_laws.specs.Differing.{Origin, parent_in, step_fields, from_parent, descends}
 use Rattle.config_laws.specs.Differing.{fields_since, is_descendant, differing}
-use Rattle.config_laws.specs.Differing.{AreVersions, DescendantsRefine}
+use Rattle.config_laws.specs.Differing.{AreVersions, VersionsStand, DescendantsRefine}
 
 -- ---- lists of fields
 
@@ -189,3 +190,26 @@ pub descendants_refine : DescendantsRefine
 descendants_refine unit os versions from k p q h i j =
     let kept = all_keep (program_world unit) unit os versions from p i k q h j in
     (kept.head, kept.refines)
+
+-- ---- no versions
+
+no_parent : (k from : ℕ) → is_descendant [] k from ≡ true → (k == from) ≡ true
+no_parent zero from h = h
+no_parent (suc k) from h = by (suc k == from) h
+  where
+    by : (t : Bool) → (t || false) ≡ true → t ≡ true
+    by true h = refl
+    by false h = h
+
+-- where none is a version each procedure stands for itself
+pub no_versions : (unit : Program) → VersionsStand unit []
+no_versions unit from k p q is i j =
+    let same : p ≡ q =
+    some_injective p q (sym i ∙ ap (slice_get unit.procedures)
+    (sym (eqb-true k from (no_parent k from is))) ∙ j) in
+    let world = program_world unit in (
+      subst (λ z. HasHead p z) same (refl, refl),
+      refines_but_for_more world p q [] (differing unit [] k from)
+          (λ f none. absurd (not-suc-le-zero none.1))
+          (subst (λ z. Refines world p z []) same (refines_itself world p)),
+    )

@@ -7,6 +7,7 @@ pub mod Derived
 pub mod Called
 pub mod PutBack
 pub mod Proposed
+pub mod Beside
 pub mod Grown
 pub mod RuleExamples
 pub mod GrownExamples

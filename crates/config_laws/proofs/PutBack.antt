@@ -104,10 +104,11 @@ pub put_behind : (n : ℕ) (path : Path) (body : Block) (o : Opened) (a : Statem
     → opened n path body ≡ Some o
     → opened 0 (gap path Behind) (fill o.around (next a w))
     ≡ Some (record { around = within o.around (After a (Here w)); piece = end })
-put_behind n path body o a w e =
-    (places_compose 0 (size (next a w)) path (record { branch = Main; index = 1 }) []
+put_behind n [] body o a w e = absurd (none_some e)
+put_behind n (s ∷ path) body o a w e =
+    (places_compose 0 (size (next a w)) (s ∷ path) (record { branch = Main; index = 1 }) []
     (fill o.around (next a w)) (record { around = o.around; piece = next a w })
-    (record { around = After a (Here w); piece = end }) (put_back n path body o (next a w) e)
+    (record { around = After a (Here w); piece = end }) (put_back n (s ∷ path) body o (next a w) e)
     refl).there
 
 -- ---- what is surely written there

@@ -1,12 +1,15 @@
 -- The rules, computed on closed units.
-use Rattle.std.proofs.Common.{◌≡◌, ℕ, ℤ, pos, List, [], ◌∷◌, Some, None, refl}
+use Rattle.std.proofs.Common.{◌≡◌, ℕ, ℤ, pos, true, false, List, [], ◌∷◌, Some, None, refl}
 use Rattle.exo_tree.specs.Tree.{Size, Lit, Var, Field, Eq, Config, Assign, Const, Call, For, Pass}
 use Rattle.exo_tree.specs.Tree.{ControlArg, Whole, Window, Span, I32, Binder, Block, end, next}
 use Rattle.exo_tree.specs.Tree.{Condition, Param, ControlParam, TensorParam, WindowParam, Procedure}
 use Rattle.exo_tree.specs.Tree.{ConfigField, Program}
-use Rattle.exo_tree.specs.Places.{Main, Path}
+use Rattle.exo_tree.specs.Context.{Here, After}
+use Rattle.exo_tree.specs.Places.{Main, Path, Opened}
 use Rattle.config_laws.specs.FieldRule.{Got, Not, WrongShape, ConfigLive, NotDescendant}
 use Rattle.config_laws.specs.FieldRule.{Before, Behind, proposed, fields_at_end}
+use Rattle.config_laws.specs.Beside.{IsLiveAt}
+use Rattle.config_laws.proofs.Beside.{live_beside}
 use Rattle.config_laws.specs.WriteConfig.{write_config}
 use Rattle.config_laws.specs.DeleteConfig.{delete_config}
 use Rattle.config_laws.specs.BindConfig.{bind_config}
@@ -106,6 +109,19 @@ no_gap :
     proposed (write_config stepping_unit Before 0 (ControlArg (Lit (pos 4)))) stepping (at 2)
     ≡ Not WrongShape
 no_gap = refl
+
+-- behind both statements the field is not live, and before the call it is
+abbrev both : Opened
+both = record { around = Here end; piece = stepping.body }
+
+dead_behind : IsLiveAt stepping_unit 0 stepping.body (at 2) false
+dead_behind = (live_beside stepping_unit 0 2 (at 0) stepping.body both refl).0
+
+live_before_call : IsLiveAt stepping_unit 0 stepping.body (at 1) true
+live_before_call =
+    (live_beside stepping_unit 0 1 (at 1) stepping.body
+    (record { around = After (Config 0 (ControlArg (Lit (pos 8)))) (Here end); piece = steps end })
+    refl).1
 
 -- ---- an argument is bound
 

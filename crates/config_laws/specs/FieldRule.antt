@@ -104,10 +104,15 @@ abbrev pub refused_if : Bool → Cause → Option Cause
 refused_if true cause = Some cause
 refused_if false cause = None
 
+-- so many statements further on in the block; from no statement there is no way on
+abbrev pub further : ℕ → Path → Path
+further k [] = []
+further k (s ∷ path) = onward (s ∷ path) (record { branch = Main; index = k }) []
+
 -- the place between two statements, as a path
 abbrev pub gap : Path → Side → Path
 gap path Before = path
-gap path Behind = onward path (record { branch = Main; index = 1 }) []
+gap path Behind = further 1 path
 
 -- written on every way from that place to the end
 abbrev pub surely_from : List Procedure → Block → Path → Side → ℕ → Bool

@@ -1,6 +1,7 @@
 pub mod Surely
 pub mod Exits
 pub mod FieldRule
+pub mod Beside
 pub mod WriteConfig
 pub mod DeleteConfig
 pub mod BindConfig

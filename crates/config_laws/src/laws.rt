@@ -1,5 +1,6 @@
 // Laws of configuration writes, each the contract of a function with nothing to do.
 
+ghost use Rattle.config_laws.specs.Beside.{LiveBeside};
 ghost use Rattle.config_laws.specs.Exits.{BlocksGoByExit};
 ghost use Rattle.config_laws.specs.Exits.{HolesGoByExit};
 ghost use Rattle.config_laws.specs.Exits.{UnitsGoByExit};
@@ -130,4 +131,9 @@ pub fn bind_config_refines()
 /// those that are written again left out.
 pub fn call_eqv_refines()
     ensures { CallEqvRefines }
+{}
+
+/// What is live beside statements is live in the gap there.
+pub fn fields_are_live_in_gaps()
+    ensures { LiveBeside }
 {}

@@ -7,10 +7,9 @@ use Rattle.exo_tree.specs.Places.{Branch, Main, Else, Step, Path, Opened, opened
 use Rattle.meaning_laws.specs.Live.{live_behind}
 use Rattle.meaning_laws.specs.UnitFields.{unit_live}
 use Rattle.config_state.specs.FieldSets.{contains}
-use Rattle.config_laws.specs.FieldRule.{Side, Before, Behind, gap, is_live}
+use Rattle.config_laws.specs.FieldRule.{Side, Before, Behind, gap, is_live, surely_from}
 use Rattle.exo_tree.specs.Context.{Context, Here, After, InLoop, InThen, InElse}
 use Rattle.config_laws.specs.Surely.{surely_behind, unit_surely}
-use Rattle.config_live.specs.Origins.{surely_at}
 use Rattle.config_live.specs.declared.table.LiveTable.{LiveTable}
 use Rattle.config_live.specs.declared.way.Way.{Way}
 use Rattle.config_live.specs.Tables.{reads_first, writes_surely, calls_in}
@@ -107,7 +106,11 @@ pub arrive_none : (table : LiveTable) (path : Path) (side : Side) (b : Block) (w
     → path ≡ []
     → Arrives table (place_in b path side) false way way
 arrive_none table path side b way e =
-    ([], subst (λ p. Reaches table (place_in b p side) false way way [] []) (sym e) refl)
+    ([], subst (λ p. Reaches table (place_in b p side) false way way [] []) (sym e) (nowhere side))
+  where
+    nowhere : (side : Side) → Reaches table (place_in b [] side) false way way [] []
+    nowhere Before = refl
+    nowhere Behind = refl
 
 -- ---- what is surely written from a place on
 
@@ -141,7 +144,7 @@ module _ (ps : List Procedure) (n : ℕ) (table : LiveTable) (f : ℕ)
   pub written_is : (b : Block) (path : Path) (side : Side) (found : Bool) (old new : Way)
       → IsStart n old → f < n → found ≡ true
       → Arrives table (place_in b path side) found old new
-      → contains new.written f ≡ surely_at ps b path side f
+      → contains new.written f ≡ surely_from ps b path side f
   written_is b path side found old new s l e h =
       written_there (place_in b path side) old new h.0 s l
       (subst (λ z. Reaches table (place_in b path side) z old new [] h.0) e h.1)

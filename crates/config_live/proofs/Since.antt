@@ -10,7 +10,7 @@ use Rattle.config_laws.specs.Differing.{parent_in, step_fields, fields_since, fr
 use Rattle.config_laws.specs.Differing as law
 use Rattle.config_laws.specs.FieldRule.{Side, is_listed, not_again, surely_from, fields_at_end}
 use Rattle.config_live.specs.declared.origins.Origin.{Origin}
-use Rattle.config_live.specs.Origins.{origin, surely_at}
+use Rattle.config_live.specs.Origins.{origin}
 use Rattle.config_live.proofs.Truths.{or_swap}
 
 -- ---- a list gone over
@@ -88,27 +88,15 @@ listed_left written [] f = refl
 listed_left written (g ∷ fs) f =
     listed_one written g f fs (listed_left written fs f) (written g) refl
 
--- where the place is that of a statement, or no field is listed
-at_place_same : (ps : List Procedure) (body : Block) (place : Path) (side : Side) (fs : List ℕ) (f : ℕ)
-    → (place ≡ [] → fs ≡ [])
-    → (is_listed f fs && not (surely_at ps body place side f))
-    ≡ (is_listed f fs && not (surely_from ps body place side f))
-at_place_same ps body [] side fs f placed =
-    ap (λ x. is_listed f x && not (surely_at ps body [] side f)) (placed refl)
-    ∙ sym (ap (λ x. is_listed f x && not (surely_from ps body [] side f)) (placed refl))
-at_place_same ps body (s ∷ place) side fs f placed = refl
-
 pub step_marked : (ps : List Procedure) (body : Block) (place : Path) (side : Side) (fs : List ℕ)
     (written old new : List Bool)
-    → (place ≡ [] → fs ≡ [])
-    → ((f : ℕ) → f < length old → contains written f ≡ surely_at ps body place side f)
+    → ((f : ℕ) → f < length old → contains written f ≡ surely_from ps body place side f)
     → Marked (λ f. is_listed f fs && not (contains written f)) old new
     → Marked (λ f. is_listed f (fields_at_end ps body place side fs)) old new
-step_marked ps body place side fs written old new placed same h =
+step_marked ps body place side fs written old new same h =
     marked_same (λ f. is_listed f fs && not (contains written f))
     (λ f. is_listed f (fields_at_end ps body place side fs)) old new
     (λ f l. ap (λ x. is_listed f fs && not x) (same f l)
-    ∙ at_place_same ps body place side fs f placed
     ∙ sym (listed_left (surely_from ps body place side) fs f))
     h
 

@@ -25,8 +25,7 @@ index_beside rule.Behind k = k + 1
 
 -- beside the statement at a path
 abbrev pub place_in : Block → Path → rule.Side → Option Opened
-place_in body [] side = None
-place_in body (s ∷ path) side = opened 0 (gap (s ∷ path) side) body
+place_in body path side = opened 0 (gap path side) body
 
 -- where no field is live at the end of the body; at a place that is not there none is live
 abbrev pub live_from : List Procedure → Block → Path → rule.Side → ℕ → Bool
@@ -35,11 +34,16 @@ live_from ps body path side f = elim (place_in body path side) [
   | Some o ↦ is_live ps f o
 ]
 
--- in a procedure of a unit; a field that the unit has not is live nowhere
+-- a field that the unit has not is live nowhere
+abbrev pub live_in_body : Program → Block → Path → rule.Side → ℕ → Bool
+live_in_body unit body path side f =
+    nat_lt f (length unit.fields) && live_from unit.procedures body path side f
+
+-- in a procedure of a unit
 abbrev pub live_in : Program → ℕ → Path → rule.Side → ℕ → Bool
 live_in unit p path side f = elim (slice_get unit.procedures p) [
   | None ↦ false
-  | Some q ↦ nat_lt f (length unit.fields) && live_from unit.procedures q.body path side f
+  | Some q ↦ live_in_body unit q.body path side f
 ]
 
 -- behind a statement of a block

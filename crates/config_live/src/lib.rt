@@ -11,6 +11,6 @@ mod walk;
 mod way;
 
 pub use fields::FieldList;
-pub use origins::{Origin, differing};
-pub use place::{Side, live};
+pub use origins::{Origin, descends, differing};
+pub use place::{Side, live, live_in_body};
 pub use table::{CallFields, LiveTable};

@@ -3,11 +3,12 @@ ghost use Rattle.std.specs.Prelude.{◌≡◌, ◌==◌, ◌<◌, ◌&&◌, not,
 ghost use Rattle.exo_tree.specs.Tree.{block};
 ghost use Rattle.exo_tree.specs.PlainUnit.{program};
 ghost use Rattle.config_state.specs.FieldSets.{contains, Marked};
-ghost use Rattle.config_laws.specs.FieldRule.{is_listed};
-ghost use Rattle.config_laws.specs.Differing.{parent_in, step_fields, fields_since, differing};
+ghost use Rattle.config_laws.specs.FieldRule.{is_listed, surely_from};
+ghost use Rattle.config_laws.specs.Differing.{parent_in, step_fields, fields_since};
+ghost use Rattle.config_laws.specs.Differing.{is_descendant, differing};
 ghost use Rattle.config_live.specs.Tables.{IsLiveTable};
 ghost use Rattle.config_live.specs.Places.{side_taken};
-ghost use Rattle.config_live.specs.Origins.{origin, number, ArePlaced, surely_at};
+ghost use Rattle.config_live.specs.Origins.{origin, number};
 
 use crate::fields::FieldList;
 use crate::place::{Side, go_from};
@@ -37,7 +38,9 @@ fn written_from(
     side: Side,
 ) -> Result<FieldSet, AllocError>
     requires { IsLiveTable (program unit.now) table.now }
-    ensures { IfOk result (λ s. (f : ℕ) → f < length (program unit.now).fields → contains s f ≡ surely_at (program unit.now).procedures (block body.now) place.now (side_taken side) f) }
+    ensures { IfOk result (λ s. (f : ℕ) → f < length (program unit.now).fields
+        → contains s f
+        ≡ surely_from (program unit.now).procedures (block body.now) place.now (side_taken side) f) }
 {
     let count = unit.fields.len();
     let mut way = Way::new(alloc, count)?;
@@ -76,7 +79,6 @@ fn add_step(
     set: &mut FieldSet,
 ) -> Result<(), AllocError>
     requires table { IsLiveTable (program unit.now) table.now }
-    requires placed { ArePlaced (map origin origins.now) }
     requires wide { length set.old ≡ length (program unit.now).fields }
     ensures { OnOk result (Marked (λ f. is_listed f (step_fields (program unit.now).procedures (map origin origins.now) k)) set.old set.new) }
 {
@@ -99,6 +101,22 @@ fn parent(origins: &[Origin], k: usize) -> Option<usize>
     Some(parent.0 as usize)
 }
 
+/// Whether a version was made of another one in any number of steps, or is that one.
+pub fn descends(origins: &[Origin], k: ProcId, from: ProcId) -> bool
+    ensures { result ≡ is_descendant (map origin origins.now) k.0 from.0 }
+{
+    let mut at = k.0 as usize;
+    let mut left = at;
+    while left > 0 && at != from.0 as usize {
+        let Some(above) = parent(origins, at) else {
+            return false;
+        };
+        at = above;
+        left -= 1;
+    }
+    at == from.0 as usize
+}
+
 /// Adds the fields of the steps from a version up to another one that it was made from.
 fn add_since(
     alloc: Global,
@@ -110,7 +128,6 @@ fn add_since(
     set: &mut FieldSet,
 ) -> Result<(), AllocError>
     requires table { IsLiveTable (program unit.now) table.now }
-    requires placed { ArePlaced (map origin origins.now) }
     requires wide { length set.old ≡ length (program unit.now).fields }
     ensures { OnOk result (Marked (λ f. is_listed f (fields_since (program unit.now).procedures (map origin origins.now) from p p)) set.old set.new) }
 {
@@ -129,7 +146,8 @@ fn add_since(
 
 /// The fields in which a version may differ from one that it was made from, in unit order: those of
 /// the steps between, but for those that the result of the step surely writes again from its place
-/// on. The table is that of the unit, and each origin with fields names a statement.
+/// on. The table is that of the unit. More fields than there are numbers for are answered as want
+/// of memory.
 pub fn differing(
     alloc: Global,
     unit: &Unit,
@@ -139,11 +157,13 @@ pub fn differing(
     from: ProcId,
 ) -> Result<Vec<FieldId>, AllocError>
     requires table { IsLiveTable (program unit.now) table.now }
-    requires placed { ArePlaced (map origin origins.now) }
-    requires numbered { length (program unit.now).fields < 4294967296 }
     ensures { IfOk result (λ v. map number v.items ≡ differing (program unit.now) (map origin origins.now) p.0 from.0) }
 {
-    let mut set = FieldSet::empty(alloc, unit.fields.len())?;
+    let count = unit.fields.len();
+    if count > 4294967295 {
+        return Err(AllocError);
+    }
+    let mut set = FieldSet::empty(alloc, count)?;
     add_since(
         alloc,
         unit,

@@ -8,7 +8,8 @@ ghost use Rattle.exo_tree.specs.PlainUnit.{program};
 ghost use Rattle.config_laws.specs.FieldRule.{gap};
 ghost use Rattle.config_live.specs.Tables.{calls_in, IsLiveTable};
 ghost use Rattle.config_live.specs.Ways.{nothing, Went};
-ghost use Rattle.config_live.specs.Places.{side_taken, index_beside, live_in, live_in_next_turn, place_in, Leaves, Reaches, Arrives};
+ghost use Rattle.config_live.specs.Places.{side_taken, index_beside, live_in, live_in_body};
+ghost use Rattle.config_live.specs.Places.{live_in_next_turn, place_in, Leaves, Reaches, Arrives};
 
 use crate::fields::FieldList;
 use crate::table::LiveTable;
@@ -140,11 +141,30 @@ pub(crate) fn go_from(
     }
 }
 
-/// Whether a field is live beside the statement at a path: whether it may be read from there on
-/// before it is surely written. No field is live at the end of a procedure, nor at a place that is
-/// not there; a field that the unit has not is live nowhere. Before the index behind the last
-/// statement of a block is that block's end. The table is that of the unit. It takes a time linear
-/// in the procedure's tree and the unit's fields, where calls count as in the table.
+/// Whether a field is live beside the statement at a path of a body: whether it may be read from
+/// there on before it is surely written. No field is live at the end of the body, nor at a place
+/// that is not there; a field that the unit has not is live nowhere. Before the index behind the
+/// last statement of a block is that block's end. The table is that of the unit. It takes a time
+/// linear in the body's tree and the unit's fields, where calls count as in the table.
+pub fn live_in_body(
+    alloc: Global,
+    unit: &Unit,
+    table: &LiveTable,
+    body: &Block,
+    path: &Path,
+    side: Side,
+    f: FieldId,
+) -> Result<bool, AllocError>
+    requires { IsLiveTable (program unit.now) table.now }
+    ensures { IfOk result (λ r. r
+        ≡ live_in_body (program unit.now) (block body.now) path.now (side_taken side) f.0) }
+{
+    let mut way = Way::new(alloc, unit.fields.len())?;
+    let there = go_from(alloc, body, path, side, table, &mut way)?;
+    Ok(there && way.read.contains(f.0 as usize))
+}
+
+/// The same in a procedure of the unit; where there is no such procedure no field is live.
 pub fn live(
     alloc: Global,
     unit: &Unit,
@@ -160,7 +180,5 @@ pub fn live(
     let Some(found) = unit.procs.get(p.0 as usize) else {
         return Ok(false);
     };
-    let mut way = Way::new(alloc, unit.fields.len())?;
-    let there = go_from(alloc, &found.body, path, side, table, &mut way)?;
-    Ok(there && way.read.contains(f.0 as usize))
+    live_in_body(alloc, unit, table, &found.body, path, side, f)
 }

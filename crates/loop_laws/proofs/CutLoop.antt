@@ -127,7 +127,7 @@ module _ (e : Control) (a : Site) (is : IsSite (cut_rule e) a) (l : Loop)
 
 pub cut_is_lawful : (e : Control) → IsLawful (cut_rule e)
 cut_is_lawful e = record {
-  replaces = λ a is met. (
+  replaces = λ a is versions met. (
       let on = on_loop loop_of (cut e) a is.at is.chosen is.made is.drafted in
       let l = on.loop in
       let was = loop_of_is (old a.spot) l on.found in

@@ -326,7 +326,7 @@ abbrev any_division : ℤ → List ℕ → List ℕ → Tail → Division
 any_division by one two tail = record { by = by; outer = one; inner = two; tail = tail }
 
 lawful : (by : ℤ) (one two : List ℕ) (tail : Tail) → IsLawful (divide_rule (any_division by one two tail))
-lawful by one two tail = record { replaces = λ a is met. by_cases by a is met }
+lawful by one two tail = record { replaces = λ a is versions met. by_cases by a is met }
   where
     by_cases : (by : ℤ) (a : Site) → IsSite (divide_rule (any_division by one two tail)) a
         → Each (IsMet a.spot.target) ((divide_rule (any_division by one two tail)).needs a.spot)

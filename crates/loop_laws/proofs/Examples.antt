@@ -44,6 +44,7 @@ plain_cells = record {
 abbrev pub target_of : Procedure → Target
 target_of p = record {
   unit = record { procedures = p ∷ []; fields = []; memories = plain_cells ∷ [] };
+  origins = [];
   number = 0;
   proc = p;
 }

@@ -24,6 +24,7 @@ use Rattle.cursor_forward.specs.Forwards.{Forwards}
 use Rattle.cursor_forward.specs.Shifts.{Shift, at_index, stays, edits_of, move_of}
 use Rattle.cursor_forward.specs.Proposals.{Plan}
 use Rattle.place_laws.specs.Order.TurnsOfTwo.{Loop}
+use Rattle.config_laws.proofs.Derived.{no_versions}
 use Rattle.step_rules.specs.Rule.{Got, Says}
 use Rattle.step_rules.specs.Owing.{AreShown, owed_for}
 use Rattle.step_rules.specs.Lawful.{IsMet, IsTarget, MayRunIn}
@@ -128,7 +129,7 @@ cut_is_shown =
 pub cut_refines : MeaningLaw → Refines (program_world (target_of z).unit) z cut_plan.proc []
 cut_refines law =
     law (cut_rule (number 5)) (target_of z) (at_index 0) cut_plan (cut_is_lawful (number 5))
-    z_is_target cut_planned cut_is_shown
+    z_is_target (no_versions (target_of z).unit) cut_planned cut_is_shown
 
 pub cut_needs_hold : NeedsHold
     → Each (IsMet (target_of z)) (cut_needs (number 5) (at_index 0) loop_of_z)
@@ -161,8 +162,8 @@ guard_planned = refl
 pub guard_refines : MeaningLaw → Refines (program_world (target_of z).unit) z guard_plan.proc []
 guard_refines law =
     law (divide_rule (division (pos 3) Guard)) (target_of z) (at_index 0) guard_plan
-    (divide_is_lawful (division (pos 3) Guard)) z_is_target guard_planned
-    (All-from_recursion IsClosed [] tt)
+    (divide_is_lawful (division (pos 3) Guard)) z_is_target (no_versions (target_of z).unit)
+    guard_planned (All-from_recursion IsClosed [] tt)
 
 pub guard_forwards : ForwardsLaw → Forwards (move_of guard_plan.edits) z guard_plan.proc
 guard_forwards law =
@@ -186,7 +187,8 @@ tail_planned = refl
 pub tail_refines : MeaningLaw → Refines (program_world (target_of z).unit) z tail_plan.proc []
 tail_refines law =
     law (divide_rule (division (pos 3) Cut)) (target_of z) (at_index 0) tail_plan
-    (divide_is_lawful (division (pos 3) Cut)) z_is_target tail_planned tail_is_shown
+    (divide_is_lawful (division (pos 3) Cut)) z_is_target (no_versions (target_of z).unit)
+    tail_planned tail_is_shown
 
 abbrev guarded_tail_plan : Plan
 guarded_tail_plan = divided_plan (pos 3) CutAndGuard tail_must 2
@@ -199,7 +201,8 @@ pub guarded_tail_refines :
     MeaningLaw → Refines (program_world (target_of z).unit) z guarded_tail_plan.proc []
 guarded_tail_refines law =
     law (divide_rule (division (pos 3) CutAndGuard)) (target_of z) (at_index 0) guarded_tail_plan
-    (divide_is_lawful (division (pos 3) CutAndGuard)) z_is_target guarded_tail_planned tail_is_shown
+    (divide_is_lawful (division (pos 3) CutAndGuard)) z_is_target (no_versions (target_of z).unit)
+    guarded_tail_planned tail_is_shown
 
 -- by 8, without a rest
 abbrev even_must : List Owed
@@ -219,7 +222,8 @@ even_is_shown =
 pub even_refines : MeaningLaw → Refines (program_world (target_of z).unit) z even_plan.proc []
 even_refines law =
     law (divide_rule (division (pos 8) Perfect)) (target_of z) (at_index 0) even_plan
-    (divide_is_lawful (division (pos 8) Perfect)) z_is_target even_planned even_is_shown
+    (divide_is_lawful (division (pos 8) Perfect)) z_is_target (no_versions (target_of z).unit)
+    even_planned even_is_shown
 
 -- ---- runs
 

@@ -18,6 +18,7 @@ use Rattle.cursor_forward.specs.Cursors.{Before}
 use Rattle.cursor_forward.specs.Forwards.{Forwards}
 use Rattle.cursor_forward.specs.Shifts.{at_index, stays, edits_of, move_of}
 use Rattle.cursor_forward.specs.Proposals.{Plan}
+use Rattle.config_laws.proofs.Derived.{no_versions}
 use Rattle.step_rules.specs.Rule.{Tried, Got, Not, Says}
 use Rattle.step_rules.specs.Owing.{AreShown, owed_for}
 use Rattle.step_rules.specs.Lawful.{IsTarget}
@@ -145,8 +146,8 @@ must_is_shown =
 
 pub join_refines : MeaningLaw → Refines (program_world (target_of parts).unit) parts z []
 join_refines law =
-    law join_rule (target_of parts) (at_index 0) plan join_is_lawful parts_is_target planned
-    must_is_shown
+    law join_rule (target_of parts) (at_index 0) plan join_is_lawful parts_is_target
+    (no_versions (target_of parts).unit) planned must_is_shown
 
 pub join_forwards : ForwardsLaw → Forwards (move_of plan.edits) parts z
 join_forwards law =

@@ -252,7 +252,7 @@ module _ (a : Site) (is : IsSite join_rule a) (n : Neighbours)
 
 pub join_is_lawful : IsLawful join_rule
 join_is_lawful = record {
-  replaces = λ a is met.
+  replaces = λ a is versions met.
       let t = then_got (joining_at a.spot) (λ n. Got (joined_loop n)) a.draft is.drafted in
       let n = t.0 in
       let known = joining_found (next_id a.spot.target.proc) (old a.spot) n t.1 in

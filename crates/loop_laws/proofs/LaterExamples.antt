@@ -11,6 +11,7 @@ use Rattle.cursor_forward.specs.Causes.{WrongShape, OutOfScope, NameTaken}
 use Rattle.cursor_forward.specs.Forwards.{Forwards}
 use Rattle.cursor_forward.specs.Proposals.{Plan}
 use Rattle.cursor_forward.specs.Shifts.{Shift, at_index, alone, range, edits_of, move_of}
+use Rattle.config_laws.proofs.Derived.{no_versions}
 use Rattle.step_rules.specs.Rule.{Tried, Got, Not, Rule}
 use Rattle.step_rules.specs.Answer.{proposed}
 use Rattle.step_rules.specs.Lawful.{IsTarget}
@@ -105,7 +106,7 @@ pub mult_refines :
 mult_refines law =
     law (mult_rule (codes "k")) (target_of four) (at_index 0)
     (planned as_one_loop (at_index 0) 1 1 moved) (mult_is_lawful (codes "k")) four_is_target
-    four_planned none_owed
+    (no_versions (target_of four).unit) four_planned none_owed
 
 pub mult_forwards : ForwardsLaw
     → Forwards (move_of (edits_of (at_index 0) 1 1 moved)) (of_body four) (of_body as_one_loop)

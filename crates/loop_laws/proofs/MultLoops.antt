@@ -207,7 +207,7 @@ module _ (name : List ℕ) (a : Site) (is : IsSite (mult_rule name) a) (k l : Lo
 
 pub mult_is_lawful : (name : List ℕ) → IsLawful (mult_rule name)
 mult_is_lawful name = record {
-  replaces = λ a is met.
+  replaces = λ a is versions met.
       let made = made_of (pair_of (old a.spot)) (λ p. multiplied name p a.base) a.draft is.drafted in
       by made.of.by a is made.of refl (pair_is (old a.spot) made.of made.found) made.made;
 }

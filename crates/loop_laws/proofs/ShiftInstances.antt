@@ -14,6 +14,7 @@ use Rattle.cursor_forward.specs.Forwards.{Forwards}
 use Rattle.cursor_forward.specs.Shifts.{at_index, stays, edits_of, move_of}
 use Rattle.cursor_forward.specs.Proposals.{Plan}
 use Rattle.place_laws.specs.Order.TurnsOfTwo.{Loop}
+use Rattle.config_laws.proofs.Derived.{no_versions}
 use Rattle.step_rules.specs.Rule.{Got, Says}
 use Rattle.step_rules.specs.Owing.{AreShown, owed_for}
 use Rattle.step_rules.specs.Laws.{MeaningLaw, ForwardsLaw}
@@ -58,7 +59,7 @@ is_shown = All-from_recursion IsClosed must (λ point h. no_point 2 point h.rows
 pub shift_refines : MeaningLaw → Refines (program_world (target_of z).unit) z plan.proc []
 shift_refines law =
     law (shift_rule (number 2)) (target_of z) (at_index 0) plan (shift_is_lawful (number 2))
-    z_is_target from_two is_shown
+    z_is_target (no_versions (target_of z).unit) from_two is_shown
 
 pub shift_forwards : ForwardsLaw → Forwards (move_of plan.edits) z plan.proc
 shift_forwards law =

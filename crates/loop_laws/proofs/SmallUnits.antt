@@ -57,7 +57,7 @@ unit_is b good = record {
 }
 
 abbrev pub target_of : Block → Target
-target_of b = record { unit = unit_of b; number = 0; proc = of_body b }
+target_of b = record { unit = unit_of b; origins = []; number = 0; proc = of_body b }
 
 -- so many statements at the path became so many others, and nothing is owed
 abbrev pub planned : Block → Path → ℕ → ℕ → List Shift → Plan

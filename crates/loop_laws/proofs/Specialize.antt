@@ -54,7 +54,7 @@ not_used count c a is =
 
 pub specialize_is_lawful : (count : ℕ) (c : Condition) → IsLawful (specialize_rule count c)
 specialize_is_lawful count c = record {
-  replaces = λ a is met.
+  replaces = λ a is versions met.
       subst (λ d. Replaces a.spot d (fields_at_exit (specialize_rule count c) a))
       (same_got is.drafted)
       (blocks_may_be_specialized a.spot c a.base (fields_at_exit (specialize_rule count c) a)

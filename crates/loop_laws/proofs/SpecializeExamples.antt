@@ -8,6 +8,7 @@ use Rattle.cursor_forward.specs.Causes.{WrongShape, OutOfScope}
 use Rattle.cursor_forward.specs.Forwards.{Forwards}
 use Rattle.cursor_forward.specs.Shifts as shifts
 use Rattle.cursor_forward.specs.Shifts.{Move, at_index, edits_of, move_of}
+use Rattle.config_laws.proofs.Derived.{no_versions}
 use Rattle.step_rules.specs.Rule.{Got, Not}
 use Rattle.step_rules.specs.Answer.{proposed}
 use Rattle.step_rules.specs.Laws.{MeaningLaw, ForwardsLaw}
@@ -137,7 +138,7 @@ pub branches_are_alike :
 branches_are_alike law =
     law (specialize_rule 1 test) (target_of two) (at_index 0)
     (planned either (at_index 0) 1 1 (into_branch 1)) (specialize_is_lawful 1 test) is_target
-    loop_in_branches none_owed
+    (no_versions (target_of two).unit) loop_in_branches none_owed
 
 pub statements_go_in :
     ForwardsLaw

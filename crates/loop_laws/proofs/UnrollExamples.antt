@@ -11,6 +11,7 @@ use Rattle.cursor_forward.specs.Causes.{WrongShape, LimitPassed, Form, WideNumbe
 use Rattle.cursor_forward.specs.Forwards.{Forwards}
 use Rattle.cursor_forward.specs.Shifts as shifts
 use Rattle.cursor_forward.specs.Shifts.{at_index, edits_of, move_of}
+use Rattle.config_laws.proofs.Derived.{no_versions}
 use Rattle.step_rules.specs.Rule.{Got, Not}
 use Rattle.step_rules.specs.Owing.{AreShown}
 use Rattle.step_rules.specs.Answer.{proposed}
@@ -175,8 +176,8 @@ none_owed k d less = absurd (not-suc-le-zero less)
 pub turns_are_alike :
     MeaningLaw → Refines (program_world (unit_of two)) (of_body two) (of_body two_written) []
 turns_are_alike law =
-    law unroll_rule (target_of two) (at_index 0)
-    (planned two_written (at_index 0) 1 2 into_first) unroll_is_lawful is_target two_turns none_owed
+    law unroll_rule (target_of two) (at_index 0) (planned two_written (at_index 0) 1 2 into_first)
+    unroll_is_lawful is_target (no_versions (target_of two).unit) two_turns none_owed
 
 pub statements_go_on :
     ForwardsLaw

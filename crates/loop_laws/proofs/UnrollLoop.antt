@@ -207,7 +207,7 @@ unrolling_found b u h =
 
 pub unroll_is_lawful : IsLawful unroll_rule
 unroll_is_lawful = record {
-  replaces = λ a is met.
+  replaces = λ a is versions met.
       let t = then_got (unrolling (old a.spot))
       (λ u. Got (turns_written u.loop u.turns a.base)) a.draft is.drafted in
       let known = unrolling_found (old a.spot) t.0 t.1 in

@@ -1,8 +1,10 @@
 -- The names of copies. A binder of a copy keeps its name where no binder of that name is in scope
--- at its place and none stands at the top level of its own block. Otherwise it gets the name with
--- the least number that no binder has.
+-- at its place and none that it could meet stands at the top level of its own block: for a loop
+-- each allocation and view that stands there, for an allocation or a view those of no copy.
+-- Otherwise it gets the name with the least number that no binder has.
 use Rattle.std.specs.Prelude.{ℕ, zero, suc, nat_lt, ◌==◌, Bool, ◌||◌, if◌then◌else◌}
 use Rattle.std.specs.Prelude.{List, [], ◌∷◌, ◌++◌, length, map, codes, decimal}
+use Rattle.std.specs.Prelude.{Option, Some, None}
 use Rattle.std.specs.List.{list_any}
 use Rattle.exo_tree.specs.Tree.{Binder, Param, Statement, Assign, Reduce, Config, Pass, If, For}
 use Rattle.exo_tree.specs.Tree.{Alloc, View, Call, Block, end, next, Procedure}
@@ -68,29 +70,41 @@ pub record Naming : Type 0 where
 abbrev pub closed : Naming → Naming → Naming
 closed before after = record after { scope = before.scope }
 
+-- ---- the top level of a block
+
+-- the name of a binder that is none of a copy, where copies have ids from the given one on; where
+-- none is given, of any binder
+abbrev pub own_name : Option ℕ → Binder → List Name
+own_name None x = x.name ∷ []
+own_name (Some copies) x = if nat_lt x.id copies then x.name ∷ [] else []
+
+-- what a statement leaves to its block
+abbrev pub top_name : Option ℕ → Statement → List Name
+top_name copies (Assign x is e) = []
+top_name copies (Reduce x is e) = []
+top_name copies (Config f a) = []
+top_name copies Pass = []
+top_name copies (If c a b) = []
+top_name copies (For i lo hi b) = []
+top_name copies (Alloc x cell dims memory) = own_name copies x
+top_name copies (View w x coords) = own_name copies w
+top_name copies (Call k args) = []
+
+abbrev pub top_names : Option ℕ → Block → List Name
+top_names copies end = []
+top_names copies (next a b) = top_name copies a ++ top_names copies b
+
+-- the names of the allocations and views that are of no copy, and of all
+pub record Tops : Type 0 where
+  pub own : List Name
+  pub all : List Name
+
+abbrev pub tops : ℕ → Block → Tops
+tops copies b = record { own = top_names (Some copies) b; all = top_names None b }
+
 -- copies: the first id of a binder of a copy
 module _ (copies : ℕ) where
-  -- the name of a binder that is none of a copy
-  abbrev pub own_name : Binder → List Name
-  own_name x = if nat_lt x.id copies then x.name ∷ [] else []
-
-  -- what a statement leaves to its block
-  abbrev pub top_name : Statement → List Name
-  top_name (Assign x is e) = []
-  top_name (Reduce x is e) = []
-  top_name (Config f a) = []
-  top_name Pass = []
-  top_name (If c a b) = []
-  top_name (For i lo hi b) = []
-  top_name (Alloc x cell dims memory) = own_name x
-  top_name (View w x coords) = own_name w
-  top_name (Call k args) = []
-
-  abbrev pub top_names : Block → List Name
-  top_names end = []
-  top_names (next a b) = top_name a ++ top_names b
-
-  -- top: the names at the top level of the block of the binder
+  -- top: the names that it gives its own up for, beside those in scope
   abbrev pub name_given : List Name → Naming → Binder → Name
   name_given top n x =
       if nat_lt x.id copies then x.name
@@ -106,21 +120,22 @@ module _ (copies : ℕ) where
       }
 
   abbrev mutual
-    pub name_statements : List Name → Naming → Block → Naming
+    pub name_statements : Tops → Naming → Block → Naming
     name_statements top n end = n
     name_statements top n (next a b) = name_statements top (name_statement top n a) b
 
-    pub name_statement : List Name → Naming → Statement → Naming
+    pub name_statement : Tops → Naming → Statement → Naming
     name_statement top n (Assign x is e) = n
     name_statement top n (Reduce x is e) = n
     name_statement top n (Config f a) = n
     name_statement top n Pass = n
     name_statement top n (If c a b) =
-        closed n (name_statements (top_names b) (closed n (name_statements (top_names a) n a)) b)
+        closed n (
+        name_statements (tops copies b) (closed n (name_statements (tops copies a) n a)) b)
     name_statement top n (For i lo hi b) =
-        closed n (name_statements (top_names b) (with_binder top n i) b)
-    name_statement top n (Alloc x cell dims memory) = with_binder top n x
-    name_statement top n (View w x coords) = with_binder top n w
+        closed n (name_statements (tops copies b) (with_binder top.all n i) b)
+    name_statement top n (Alloc x cell dims memory) = with_binder top.own n x
+    name_statement top n (View w x coords) = with_binder top.own n w
     name_statement top n (Call k args) = n
 
 -- a binder with the name that it is given
@@ -143,5 +158,5 @@ first_naming p =
 -- a new body of the procedure, with names for its copies, whose binders have ids from `copies` on
 abbrev pub named_copies : Procedure → ℕ → Block → Block
 named_copies p copies b =
-    let top = top_names copies b in
+    let top = tops copies b in
     mapped_block (with_names (name_statements copies top (first_naming p) b).given) b

@@ -1,13 +1,17 @@
 //! Lists of names.
-ghost use Rattle.std.specs.Prelude.{◌≡◌, [], ◌∷◌, ◌++◌, map, codes, decimal, IfOk, OnOk};
+ghost use Rattle.std.specs.Prelude.{◌≡◌, [], ◌∷◌, ◌++◌, map, codes, decimal, if◌then◌else◌};
+ghost use Rattle.std.specs.Prelude.{nat_eq, IfOk, OnOk};
+ghost use Rattle.std.specs.List.{starts_with};
 ghost use Rattle.exo_tree.specs.Tree.{block};
+ghost use Rattle.exo_tree.specs.PlainBinder.{binding};
 ghost use Rattle.exo_tree.specs.PlainParam.{parameter};
 ghost use Rattle.exo_tree.specs.PlainStatement.{statement};
 ghost use Rattle.exo_meaning.specs.Units.{is_text};
 ghost use Rattle.made_trees.specs.Names as plain;
-ghost use Rattle.made_trees.specs.Names.{binder_names, names_below, names_of, top_name, top_names};
+ghost use Rattle.made_trees.specs.Names.{binder_names, names_below, names_of, own_name, top_name};
+ghost use Rattle.made_trees.specs.Walked.{alike_names, top_level};
 
-use exo_tree::{Block, Name, Param, Stmt};
+use exo_tree::{Binder, Block, Name, Param, Stmt};
 use std::alloc::{AllocError, Global};
 
 /// Whether the texts are the same.
@@ -37,14 +41,36 @@ fn numbered(alloc: Global, x: &str, k: usize) -> Result<Name, AllocError>
     Ok(Name::new(alloc, text.as_str())?)
 }
 
+/// Whether a text begins with another.
+fn begins_with(text: &str, front: &str) -> bool
+    ensures { result ≡ starts_with nat_eq text.now front.now }
+{
+    text.starts_with(front)
+}
+
+/// Copies of the names that begin with that one: a name with a number stands among all where it
+/// stands among these.
+fn alike(alloc: Global, names: &[Name], x: &str) -> Result<Vec<Name>, AllocError>
+    ensures { IfOk result (λ near. near.items ≡ alike_names x.now names.now) }
+{
+    let mut near = Vec::new(alloc);
+    for name in names {
+        if begins_with(name.as_str(), x) {
+            put(&mut near, alloc, name)?;
+        }
+    }
+    Ok(near)
+}
+
 /// The name with the least number from 1 on that is not taken.
 pub(crate) fn free_name(alloc: Global, taken: &[Name], x: &str) -> Result<Name, AllocError>
     ensures { IfOk result (λ n. n ≡ plain.free_name taken.now x.now) }
 {
+    let near = alike(alloc, taken, x)?;
     let count = taken.len();
     for k in 0..count {
         let name = numbered(alloc, x, k + 1)?;
-        if !is_in(taken, name.as_str()) {
+        if !is_in(near.as_slice(), name.as_str()) {
             return Ok(name);
         }
     }
@@ -103,13 +129,29 @@ fn put_statement(names: &mut Vec<Name>, alloc: Global, s: &Stmt) -> Result<(), A
     }
 }
 
-/// Appends the name that a statement leaves to its block, unless it is a copy's.
-fn put_top(names: &mut Vec<Name>, alloc: Global, copies: u32, s: &Stmt) -> Result<(), AllocError>
+/// Whether a binder is one of a copy, where copies have ids from the given one on.
+fn is_copy(x: &Binder, copies: Option<u32>) -> bool
+    ensures { own_name copies (binding x.now) ≡ (if result then [] else x.now.name ∷ []) }
+{
+    match copies {
+        None => false,
+        Some(copies) => x.id.0 >= copies,
+    }
+}
+
+/// Appends the name that a statement leaves to its block; where a first id of copies is given,
+/// unless it is a copy's.
+fn put_top(
+    names: &mut Vec<Name>,
+    alloc: Global,
+    copies: Option<u32>,
+    s: &Stmt,
+) -> Result<(), AllocError>
     ensures { OnOk result (names.new.items ≡ names.old.items ++ top_name copies (statement s.now)) }
 {
     match s {
         Stmt::Alloc(x, _, _, _) | Stmt::View(x, _, _) => {
-            if x.id.0 >= copies {
+            if is_copy(x, copies) {
                 return Ok(());
             }
             put(names, alloc, &x.name)
@@ -118,13 +160,32 @@ fn put_top(names: &mut Vec<Name>, alloc: Global, copies: u32, s: &Stmt) -> Resul
     }
 }
 
-/// The names at the top level of a block, but for those of copies.
-pub(crate) fn tops(alloc: Global, copies: u32, b: &Block) -> Result<Vec<Name>, AllocError>
-    ensures { IfOk result (λ l. l.items ≡ top_names copies (block b.now)) }
+/// The names at the top level of a block; where a first id of copies is given, but for those of
+/// copies.
+fn top_names(alloc: Global, copies: Option<u32>, b: &Block) -> Result<Vec<Name>, AllocError>
+    ensures { IfOk result (λ l. l.items ≡ plain.top_names copies (block b.now)) }
 {
     let mut names = Vec::new(alloc);
     for k in 0..b.len() {
         put_top(&mut names, alloc, copies, b.statement(k))?;
     }
     Ok(names)
+}
+
+/// The names of the allocations and views at the top level of a block: those of no copy, and all.
+#[derive(Drop)]
+pub(crate) struct Tops {
+    pub(crate) own: Vec<Name>,
+    pub(crate) all: Vec<Name>,
+}
+
+impl Tops {
+    /// Those of a block.
+    pub(crate) fn of(alloc: Global, copies: u32, b: &Block) -> Result<Tops, AllocError>
+        ensures { IfOk result (λ t. top_level t ≡ plain.tops copies (block b.now)) }
+    {
+        let own = top_names(alloc, Some(copies), b)?;
+        let all = top_names(alloc, None, b)?;
+        Ok(Tops { own, all })
+    }
 }

@@ -6,10 +6,10 @@ ghost use Rattle.exo_tree.specs.PlainParam.{parameter};
 ghost use Rattle.exo_tree.specs.PlainProcedure.{procedure};
 ghost use Rattle.exo_tree.specs.PlainStatement.{statement};
 ghost use Rattle.made_trees.specs.Names.{closed, name_given, with_binder, name_statement, name_statements};
-ghost use Rattle.made_trees.specs.Names.{top_names, first_naming};
-ghost use Rattle.made_trees.specs.Walked.{naming};
+ghost use Rattle.made_trees.specs.Names.{tops, first_naming};
+ghost use Rattle.made_trees.specs.Walked.{naming, top_level};
 
-use crate::name::{free_name, is_in, put, put_block, put_params, tops};
+use crate::name::{Tops, free_name, is_in, put, put_block, put_params};
 use exo_tree::{Binder, Block, Name, Proc, Stmt};
 use std::alloc::{AllocError, Global};
 
@@ -77,11 +77,11 @@ impl Walk {
         copies: u32,
         b: &Block,
     ) -> Result<(), AllocError>
-        ensures { OnOk result (naming self.new ≡ name_statements copies (top_names copies (block b.now)) (naming self.old) (block b.now)) }
+        ensures { OnOk result (naming self.new ≡ name_statements copies (tops copies (block b.now)) (naming self.old) (block b.now)) }
     {
-        let top = tops(alloc, copies, b)?;
+        let top = Tops::of(alloc, copies, b)?;
         for k in 0..b.len() {
-            self.statement(alloc, copies, top.as_slice(), b.statement(k))?;
+            self.statement(alloc, copies, &top, b.statement(k))?;
         }
         Ok(())
     }
@@ -89,7 +89,7 @@ impl Walk {
     /// The same of a block inside another. Behind it its names are not in scope.
     #[cycle(naming)]
     fn branch(&mut self, alloc: Global, copies: u32, b: &Block) -> Result<(), AllocError>
-        ensures { OnOk result (naming self.new ≡ closed (naming self.old) (name_statements copies (top_names copies (block b.now)) (naming self.old) (block b.now))) }
+        ensures { OnOk result (naming self.new ≡ closed (naming self.old) (name_statements copies (tops copies (block b.now)) (naming self.old) (block b.now))) }
     {
         let known = self.scope.len();
         self.statements(alloc, copies, b)?;
@@ -103,10 +103,10 @@ impl Walk {
         &mut self,
         alloc: Global,
         copies: u32,
-        top: &[Name],
+        top: &Tops,
         s: &Stmt,
     ) -> Result<(), AllocError>
-        ensures { OnOk result (naming self.new ≡ name_statement copies top.now (naming self.old) (statement s.now)) }
+        ensures { OnOk result (naming self.new ≡ name_statement copies (top_level top.now) (naming self.old) (statement s.now)) }
     {
         match s {
             Stmt::If(_, a, b) => {
@@ -115,12 +115,14 @@ impl Walk {
             }
             Stmt::For(i, _, _, b) => {
                 let known = self.scope.len();
-                self.bind(alloc, copies, top, i)?;
+                self.bind(alloc, copies, top.all.as_slice(), i)?;
                 self.statements(alloc, copies, b)?;
                 self.scope.truncate(known);
                 Ok(())
             }
-            Stmt::Alloc(x, _, _, _) | Stmt::View(x, _, _) => self.bind(alloc, copies, top, x),
+            Stmt::Alloc(x, _, _, _) | Stmt::View(x, _, _) => {
+                self.bind(alloc, copies, top.own.as_slice(), x)
+            }
             _ => Ok(()),
         }
     }

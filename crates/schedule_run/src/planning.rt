@@ -1,10 +1,11 @@
 //! What operators make of versions.
-ghost use Rattle.std.specs.Prelude.{◌≡◌, true, option_map};
+ghost use Rattle.std.specs.Prelude.{◌≡◌, [], map, true, option_map};
 ghost use Rattle.exo_tree.specs.PlainPlace.{branch_taken};
 ghost use Rattle.exo_tree.specs.PlainProcedure.{procedure};
 ghost use Rattle.exo_tree.specs.PlainUnit.{program};
 ghost use Rattle.exo_modes.specs.Marks.{modes_of};
 ghost use Rattle.exo_modes.specs.Seen.{table_says};
+ghost use Rattle.config_live.specs.Origins.{origin};
 ghost use Rattle.cursor_forward.specs.PlainProposal.{plain_proposal};
 ghost use Rattle.loop_rewrites.specs.PlainTail as made;
 ghost use Rattle.loop_laws.specs.Nest.Fission.{fission_rule};
@@ -54,6 +55,7 @@ fn on_procedure<O: Operator>(
     requires modes { table_says on.now.modes.now ≡ modes_of (program on.now.unit.now) }
     requires target { IsTarget (target on.now) }
     requires unit { program on.now.unit.now ≡ program s.now.unit }
+    requires origins { map origin on.now.origins.now ≡ [] }
     ensures { Makes plain_proposal (planned (versions s.now) on.now.number.0 (procedure on.now.proc.now) (procedure_call (O.rule op.now))) result }
 {
     proposed(alloc, on, &Path::new(), op)
@@ -70,6 +72,7 @@ fn at_statement<O: Operator>(
     requires modes { table_says on.now.modes.now ≡ modes_of (program on.now.unit.now) }
     requires target { IsTarget (target on.now) }
     requires unit { program on.now.unit.now ≡ program s.now.unit }
+    requires origins { map origin on.now.origins.now ≡ [] }
     ensures { Makes plain_proposal (planned (versions s.now) on.now.number.0 (procedure on.now.proc.now) (statement_call (plain_asked at.now) (O.rule op.now))) result }
 {
     let path = s.statement_at(alloc, on.number, at)?;
@@ -81,6 +84,7 @@ fn fission_at(alloc: Global, on: &Target<'_>, s: &Session, at: &Asked<'_>) -> Re
     requires modes { table_says on.now.modes.now ≡ modes_of (program on.now.unit.now) }
     requires target { IsTarget (target on.now) }
     requires unit { program on.now.unit.now ≡ program s.now.unit }
+    requires origins { map origin on.now.origins.now ≡ [] }
     ensures { Makes plain_proposal (planned (versions s.now) on.now.number.0 (procedure on.now.proc.now) (gap_call (plain_asked at.now) fission_rule)) result }
 {
     let gap = s.gap_at(alloc, on.number, at)?;
@@ -98,6 +102,7 @@ fn eliminate_at(
     requires modes { table_says on.now.modes.now ≡ modes_of (program on.now.unit.now) }
     requires target { IsTarget (target on.now) }
     requires unit { program on.now.unit.now ≡ program s.now.unit }
+    requires origins { map origin on.now.origins.now ≡ [] }
     ensures { Makes plain_proposal (planned (versions s.now) on.now.number.0 (procedure on.now.proc.now) (statement_call (plain_asked at.now) (dead_code_rule (option_map branch_taken keep)))) result }
 {
     match keep {
@@ -140,6 +145,7 @@ pub(crate) fn planned(
     requires modes { table_says on.now.modes.now ≡ modes_of (program on.now.unit.now) }
     requires target { IsTarget (target on.now) }
     requires unit { program on.now.unit.now ≡ program s.now.unit }
+    requires origins { map origin on.now.origins.now ≡ [] }
     requires form { has_form (plain_operation operation.now) ≡ true }
     ensures { Makes plain_proposal (planned (versions s.now) on.now.number.0 (procedure on.now.proc.now) (call_of (plain_operation operation.now))) result }
 {

@@ -1,5 +1,5 @@
 //! Operators whose arguments have expressions: what these stand for where the operators work.
-ghost use Rattle.std.specs.Prelude.{◌≡◌, true, MatchResult};
+ghost use Rattle.std.specs.Prelude.{◌≡◌, [], map, true, MatchResult};
 ghost use Rattle.exo_tree.specs.PlainControl.{condition, control};
 ghost use Rattle.exo_tree.specs.PlainProcedure.{procedure};
 ghost use Rattle.exo_tree.specs.PlainUnit.{program};
@@ -7,6 +7,7 @@ ghost use Rattle.exo_modes.specs.Marks.{modes_of};
 ghost use Rattle.exo_modes.specs.Seen.{table_says};
 ghost use Rattle.text_expressions.specs.Views.{tree_of};
 ghost use Rattle.rules_names.specs.Arguments.{is_control_form, is_condition_form, knows_fields};
+ghost use Rattle.config_live.specs.Origins.{origin};
 ghost use Rattle.cursor_forward.specs.PlainProposal.{plain_proposal};
 ghost use Rattle.loop_laws.specs.Specialize.{specialize_rule};
 ghost use Rattle.step_rules.specs.Answer as answer;
@@ -153,6 +154,7 @@ pub(crate) fn by_control(
     requires modes { table_says on.now.modes.now ≡ modes_of (program on.now.unit.now) }
     requires target { IsTarget (target on.now) }
     requires unit { program on.now.unit.now ≡ program s.now.unit }
+    requires origins { map origin on.now.origins.now ≡ [] }
     requires form { is_control_form (tree_of e.now) ≡ true }
     ensures { Makes plain_proposal (planned (versions s.now) on.now.number.0 (procedure on.now.proc.now) (control_call (plain_asked at.now) (tree_of e.now) (rule_with operator))) result }
 {
@@ -172,6 +174,7 @@ pub(crate) fn specialize_at(
     requires modes { table_says on.now.modes.now ≡ modes_of (program on.now.unit.now) }
     requires target { IsTarget (target on.now) }
     requires unit { program on.now.unit.now ≡ program s.now.unit }
+    requires origins { map origin on.now.origins.now ≡ [] }
     requires form { is_condition_form (tree_of c.now) ≡ true }
     ensures { Makes plain_proposal (planned (versions s.now) on.now.number.0 (procedure on.now.proc.now) (call_of (Specialize (plain_asked at.now) (tree_of c.now)))) result }
 {

@@ -89,6 +89,7 @@ impl Running {
         }
         let on = Target {
             unit: &self.session.unit,
+            origins: &[],
             modes: &self.modes,
             number: k,
             proc,

@@ -20,7 +20,8 @@ module _ (r : Rule) (t : Target) (at : Path) where
   pub answers_mean : (result : Result Proposal StepError) → MeaningLaw → IsLawful r → IsTarget t
       → Tries plain_proposal (proposed r t at) result
       → IfOk result (λ m. KeepsMeaning t (plain_proposal m))
-  answers_mean (Ok m) law lawful is h = law r t at (plain_proposal m) lawful is h
+  answers_mean (Ok m) law lawful is h =
+      λ versions. law r t at (plain_proposal m) lawful is versions h
   answers_mean (Err e) law lawful is h = tt
 
   pub answers_move : (result : Result Proposal StepError) → ForwardsLaw → IsCarrying r → IsTarget t

@@ -8,6 +8,7 @@ use Rattle.tree_laws.specs.Findings.Versions.{has_room, with_version}
 use Rattle.cursor_forward.specs.Forwards.{Forwards}
 use Rattle.cursor_forward.specs.Shifts.{move_of}
 use Rattle.cursor_forward.specs.Proposals.{Plan}
+use Rattle.config_laws.specs.Differing.{VersionsStand}
 use Rattle.step_rules.specs.Rule.{Target}
 use Rattle.step_rules.specs.Owing.{AreShown}
 use Rattle.step_rules.specs.Lawful.{differ_at_end}
@@ -18,11 +19,12 @@ use Rattle.step_rules.specs.Lawful.{differ_at_end}
 abbrev pub IsKept : Target → Plan → Type 0
 IsKept t m = has_room t.unit ≡ true → IsUnit (with_version t.unit m.proc)
 
--- where all that is owed is shown, the procedure is refined by the result, but for the fields that
--- may differ
+-- where the unit's procedures refine those that they were made from and all that is owed is shown,
+-- the procedure is refined by the result, but for the fields that may differ
 abbrev pub KeepsMeaning : Target → Plan → Type 0
 KeepsMeaning t m =
-    AreShown m.must
+    VersionsStand t.unit t.origins
+    → AreShown m.must
     → Refines (program_world t.unit) t.proc m.proc
     (differ_at_end t m.proc.body m.place m.side m.fields)
 

@@ -8,16 +8,18 @@ ghost use Rattle.step_rules.specs.Shapes.{alone_in};
 ghost use Rattle.step_driver.specs.PlainTarget.{target, plain_piece};
 ghost use Rattle.step_driver.specs.Spots.{spot_at};
 
+use config_live::Origin;
 use cursor_forward::{Shift, Shifts};
 use exo_modes::ModeTable;
 use exo_tree::{Block, Branch, Path, Proc, ProcId, Step, Stmt, Unit, at};
 use std::alloc::{AllocError, Global};
 use tree_edits::piece_at;
 
-/// A procedure of a unit, with the table of what each procedure of the unit touches.
+/// A procedure of a unit, with how each of the unit was made and the table of what each touches.
 #[derive(Clone, Copy)]
 pub struct Target<'a> {
     pub unit: &'a Unit,
+    pub origins: &'a [Origin],
     pub modes: &'a ModeTable,
     pub number: ProcId,
     /// The procedure of that number.

@@ -9,6 +9,7 @@ use Rattle.affine_systems.specs.Outcomes.{Owed}
 use Rattle.text_show.specs.Layout.{Text}
 use Rattle.text_show.specs.Words.{Words}
 use Rattle.text_show.specs.ControlText.{condition_text}
+use Rattle.config_laws.specs.Differing.{Origin}
 use Rattle.cursor_forward.specs.Causes.{Cause, FormFault, TooManySystems, Form}
 use Rattle.cursor_forward.specs.PlainProposal.{cause_of}
 use Rattle.cursor_forward.specs.declared.proposal.StepError.{StepError}
@@ -16,9 +17,13 @@ use Rattle.step_rules.specs.Rule.{Got, Target, Need, Says, Apart}
 use Rattle.step_rules.specs.Owing.{condition_of, conflict_is_low, owed_for, need_fault, owed_behind}
 use Rattle.step_needs.specs.Outcomes.{RefusedBy, IsCause}
 
+-- a number, and how the procedures of a unit were made
+abbrev pub Numbered : Type 0
+Numbered = ℕ × List Origin
+
 -- a procedure of a unit, under any number
-abbrev pub target_in : Program × Procedure → ℕ → Target
-target_in it k = record { unit = it.0; number = k; proc = it.1 }
+abbrev pub target_in : Program × Procedure → Numbered → Target
+target_in it k = record { unit = it.0; origins = k.1; number = k.0; proc = it.1 }
 
 -- ---- facts
 

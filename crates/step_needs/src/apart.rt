@@ -1,5 +1,5 @@
 //! What conflicts owe, as systems in the contexts of their places.
-ghost use Rattle.std.specs.Prelude.{◌≡◌, ℕ, ◌&&◌, IsTrue, map, IfOk};
+ghost use Rattle.std.specs.Prelude.{◌≡◌, ◌&&◌, IsTrue, map, IfOk};
 ghost use Rattle.exo_tree.specs.PlainProcedure.{procedure};
 ghost use Rattle.exo_tree.specs.PlainUnit.{program};
 ghost use Rattle.exo_modes.specs.Marks.{modes_of};
@@ -10,7 +10,7 @@ ghost use Rattle.exo_conflicts.specs.PlainCopies.{plain_order};
 ghost use Rattle.step_rules.specs.Rule as rule;
 ghost use Rattle.step_rules.specs.Owing.{conflict_is_low};
 ghost use Rattle.step_needs.specs.Conflicts.{loop_of, turn_loop, pieces_fit, conflict_fits, listing_at};
-ghost use Rattle.step_needs.specs.Owing.{Puts, target_in};
+ghost use Rattle.step_needs.specs.Owing.{Puts, Numbered, target_in};
 ghost use Rattle.step_needs.specs.PlainNeed.{plain_header, plain_conflict};
 ghost use Rattle.step_needs.specs.Sites.{IsSite, IsWell, seen};
 
@@ -54,7 +54,7 @@ fn listed(
     requires modes { table_says modes.now ≡ modes_of (program at.now.unit.now) }
     requires well { IsWell (program at.now.unit.now, procedure at.now.proc.now) }
     requires low { IsTrue (order_is_low order.now) }
-    ensures { (n : ℕ) → Conflicting result (order_fits order.now && pieces_fit (target_in (program at.now.unit.now, procedure at.now.proc.now) n) (plain_conflict k.now))
+    ensures { (n : Numbered) → Conflicting result (order_fits order.now && pieces_fit (target_in (program at.now.unit.now, procedure at.now.proc.now) n) (plain_conflict k.now))
         (listing_at (target_in (program at.now.unit.now, procedure at.now.proc.now) n) (plain_conflict k.now) at.now.path.now (plain_order order.now) path.now) }
 {
     contexts_are_low();
@@ -82,7 +82,7 @@ fn owed_at(
     requires modes { table_says modes.now ≡ modes_of (program at.now.unit.now) }
     requires well { IsWell (program at.now.unit.now, procedure at.now.proc.now) }
     requires low { IsTrue (conflict_is_low (plain_conflict k.now)) }
-    ensures { (n : ℕ) → Conflicting result (conflict_fits (target_in (program at.now.unit.now, procedure at.now.proc.now) n) (plain_conflict k.now))
+    ensures { (n : Numbered) → Conflicting result (conflict_fits (target_in (program at.now.unit.now, procedure at.now.proc.now) n) (plain_conflict k.now))
         (listing_at (target_in (program at.now.unit.now, procedure at.now.proc.now) n) (plain_conflict k.now) at.now.path.now (order_of (plain_conflict k.now).first.loops (plain_conflict k.now).second.loops (plain_conflict k.now).order) path.now) }
 {
     let first = turns_of(alloc, &k.first.loops)?;
@@ -107,7 +107,7 @@ pub(crate) fn put_apart(
     requires site { IsSite site.now }
     requires cursor { cursor.old ≡ seen site.now }
     requires low { IsTrue (conflict_is_low (plain_conflict k.now)) }
-    ensures puts { (n : ℕ) (m : rule.Need) → m ≡ rule.Apart path.now (plain_conflict k.now) → Puts result (target_in (seen site.now) n) m out.old out.new }
+    ensures puts { (n : Numbered) (m : rule.Need) → m ≡ rule.Apart path.now (plain_conflict k.now) → Puts result (target_in (seen site.now) n) m out.old out.new }
     ensures same { cursor.new ≡ cursor.old }
 {
     let place = place_in(site.proc, path);

@@ -1,10 +1,10 @@
 //! What has to be shown for a step, and what is found of it.
-ghost use Rattle.std.specs.Prelude.{◌≡◌, ℕ, map, IfOk};
+ghost use Rattle.std.specs.Prelude.{◌≡◌, map, IfOk};
 ghost use Rattle.exo_tree.specs.PlainProcedure.{procedure};
 ghost use Rattle.exo_tree.specs.PlainUnit.{program};
 ghost use Rattle.step_rules.specs.Owing as owing;
 ghost use Rattle.step_needs.specs.PlainNeed.{plain_need};
-ghost use Rattle.step_needs.specs.Owing.{target_in};
+ghost use Rattle.step_needs.specs.Owing.{Numbered, target_in};
 
 use crate::conflict::Conflict;
 use crate::fact::Fact;
@@ -28,7 +28,7 @@ fn findings_of_need(
     p: &Proc,
     need: &Need,
 ) -> Result<Findings, AllocError>
-    ensures { (k : ℕ) → IfOk result (λ f. f ≡ owing.findings_of_need (target_in (program unit.now, procedure p.now) k) (plain_need need.now)) }
+    ensures { (k : Numbered) → IfOk result (λ f. f ≡ owing.findings_of_need (target_in (program unit.now, procedure p.now) k) (plain_need need.now)) }
 {
     match need {
         Need::Says(path, fact) => findings_of_condition_at(alloc, unit, p, path, fact.condition()),
@@ -46,7 +46,7 @@ pub fn findings_of_needs(
     p: &Proc,
     needs: &[Need],
 ) -> Result<Findings, AllocError>
-    ensures { (k : ℕ) → IfOk result (λ f. f ≡ owing.findings_of_needs (target_in (program unit.now, procedure p.now) k) (map plain_need needs.now)) }
+    ensures { (k : Numbered) → IfOk result (λ f. f ≡ owing.findings_of_needs (target_in (program unit.now, procedure p.now) k) (map plain_need needs.now)) }
 {
     let [n, rest @ ..] = needs else {
         return Ok(Findings::FINE);

@@ -1,5 +1,5 @@
 //! What needs owe, as systems in the contexts of their places.
-ghost use Rattle.std.specs.Prelude.{◌≡◌, ℕ, true, IsTrue, map};
+ghost use Rattle.std.specs.Prelude.{◌≡◌, true, IsTrue, map};
 ghost use Rattle.std.specs.List.{list_all};
 ghost use Rattle.exo_tree.specs.PlainProcedure.{procedure};
 ghost use Rattle.exo_tree.specs.PlainUnit.{program};
@@ -18,7 +18,7 @@ ghost use Rattle.step_rules.specs.Lawful.{IsTarget};
 ghost use Rattle.step_rules.specs.Owing as owing;
 ghost use Rattle.step_rules.specs.Owing.{condition_of};
 ghost use Rattle.step_needs.specs.Outcomes.{Tries};
-ghost use Rattle.step_needs.specs.Owing.{Puts, PutsAll, is_affine, target_in};
+ghost use Rattle.step_needs.specs.Owing.{Puts, PutsAll, is_affine, Numbered, target_in};
 ghost use Rattle.step_needs.specs.PlainNeed.{plain_fact, plain_need};
 ghost use Rattle.step_needs.specs.Sites.{IsSite, seen};
 
@@ -74,7 +74,7 @@ fn put_fact(
     requires site { IsSite site.now }
     requires cursor { cursor.old ≡ seen site.now }
     requires rules { IsTrue (condition_keeps_rules (condition_of (plain_fact fact.now))) }
-    ensures puts { (k : ℕ) (n : rule.Need) → n ≡ rule.Says path.now (plain_fact fact.now) → Puts result (target_in (seen site.now) k) n out.old out.new }
+    ensures puts { (k : Numbered) (n : rule.Need) → n ≡ rule.Says path.now (plain_fact fact.now) → Puts result (target_in (seen site.now) k) n out.old out.new }
     ensures same { cursor.new ≡ cursor.old }
 {
     let (context, facts) = cursor.at(alloc, &place_in(site.proc, path))?;
@@ -97,7 +97,7 @@ fn put_need(
     requires site { IsSite site.now }
     requires cursor { cursor.old ≡ seen site.now }
     requires affine { IsTrue (is_affine (plain_need need.now)) }
-    ensures puts { (k : ℕ) → Puts result (target_in (seen site.now) k) (plain_need need.now) out.old out.new }
+    ensures puts { (k : Numbered) → Puts result (target_in (seen site.now) k) (plain_need need.now) out.old out.new }
     ensures same { cursor.new ≡ cursor.old }
 {
     match need {
@@ -117,7 +117,7 @@ fn put_needs(
     requires site { IsSite site.now }
     requires cursor { cursor.old ≡ seen site.now }
     requires affine { IsTrue (list_all is_affine (map plain_need needs.now)) }
-    ensures { (k : ℕ) → PutsAll result (target_in (seen site.now) k) (map plain_need needs.now) out.old out.new }
+    ensures { (k : Numbered) → PutsAll result (target_in (seen site.now) k) (map plain_need needs.now) out.old out.new }
 {
     let [n, rest @ ..] = needs else {
         return Ok(());
@@ -135,9 +135,9 @@ fn owed_for(
     needs: &[Need],
 ) -> Result<Vec<Obligation>, StepError>
     requires modes { table_says modes.now ≡ modes_of (program unit.now) }
-    requires target { (k : ℕ) × IsTarget (target_in (program unit.now, procedure p.now) k) }
-    requires rules { (k : ℕ) × ((owing.findings_of_needs (target_in (program unit.now, procedure p.now) k) (map plain_need needs.now)).rules ≡ true) }
-    ensures { (k : ℕ) → Tries (λ v. map plain_obligation v.items) (owing.owed_needs (target_in (program unit.now, procedure p.now) k) (map plain_need needs.now)) result }
+    requires target { (k : Numbered) × IsTarget (target_in (program unit.now, procedure p.now) k) }
+    requires rules { (k : Numbered) × ((owing.findings_of_needs (target_in (program unit.now, procedure p.now) k) (map plain_need needs.now)).rules ≡ true) }
+    ensures { (k : Numbered) → Tries (λ v. map plain_obligation v.items) (owing.owed_needs (target_in (program unit.now, procedure p.now) k) (map plain_need needs.now)) result }
 {
     procedures_keep_rules();
     well_formed_procedures_may_be_walked();
@@ -169,9 +169,9 @@ pub fn owed_needs(
     needs: &[Need],
 ) -> Result<Vec<Obligation>, StepError>
     requires modes { table_says modes.now ≡ modes_of (program unit.now) }
-    requires target { (k : ℕ) × IsTarget (target_in (program unit.now, procedure p.now) k) }
-    requires rules { (k : ℕ) × ((owing.findings_of_needs (target_in (program unit.now, procedure p.now) k) (map plain_need needs.now)).rules ≡ true) }
-    ensures { (k : ℕ) → Tries (λ v. map plain_obligation v.items) (owing.owed_needs (target_in (program unit.now, procedure p.now) k) (map plain_need needs.now)) result }
+    requires target { (k : Numbered) × IsTarget (target_in (program unit.now, procedure p.now) k) }
+    requires rules { (k : Numbered) × ((owing.findings_of_needs (target_in (program unit.now, procedure p.now) k) (map plain_need needs.now)).rules ≡ true) }
+    ensures { (k : Numbered) → Tries (λ v. map plain_obligation v.items) (owing.owed_needs (target_in (program unit.now, procedure p.now) k) (map plain_need needs.now)) result }
 {
     let [_, ..] = needs else {
         return Ok(Vec::new(alloc));

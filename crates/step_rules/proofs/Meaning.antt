@@ -28,6 +28,7 @@ use Rattle.tree_laws.specs.Made.Laws.{NamesAlone}
 use Rattle.cursor_forward.specs.Forwards.{Forwards, MovesLaw}
 use Rattle.cursor_forward.specs.Shifts.{move_of}
 use Rattle.cursor_forward.specs.Proposals.{Plan}
+use Rattle.config_laws.specs.Differing.{VersionsStand}
 use Rattle.step_rules.specs.Rule.{Target, Spot, Rule}
 use Rattle.step_rules.specs.Owing.{AreShown, findings_of_needs}
 use Rattle.step_rules.specs.Answer.{body_with, result, plan, spot}
@@ -149,17 +150,18 @@ module _ (names : NamesAlone) (r : Rule) (t : Target) (at : Path) (m : Plan) (is
     allowed = p.answer.allowed;
     formed = formed;
     named = names t.proc (base + r.named) (body_with here p.answer.draft);
+    exact = refl;
     runs = versions_run t is base made.body is.ids p.answer.kept;
   }
 
   -- the procedure is refined by the result
-  refined : NeedsHold → AreShown m.must → IsLawful r
+  refined : VersionsStand t.unit t.origins → NeedsHold → AreShown m.must → IsLawful r
       → Refines (world_of here) t.proc made (fields_at_exit r site)
-  refined needs_hold shown lawful =
+  refined versions needs_hold shown lawful =
       written_otherwise (world_of here) t.proc (with_body here made.body) made.name made.body
       (fields_at_exit r site) refl
       (replaced_refines here p.answer.draft made.body (fields_at_exit r site) is_spot
-      is_site.named (lawful.replaces site is_site (met needs_hold shown)))
+      is_site.named (lawful.replaces site is_site versions (met needs_hold shown)))
 
   -- and its statements go to others of their kinds
   forwarded : MovesLaw → IsCarrying r
@@ -178,11 +180,11 @@ module _ (names : NamesAlone) (r : Rule) (t : Target) (at : Path) (m : Plan) (is
       }
 
 pub meaning_is_kept : NamesAlone → NeedsHold → MeaningLaw
-meaning_is_kept names needs_hold r t at m lawful is h shown =
+meaning_is_kept names needs_hold r t at m lawful is versions h shown =
     let p = proposal_of r t at m h in
     subst (λ (n : Plan). Refines (program_world t.unit) t.proc n.proc
     (differ_at_end t n.proc.body n.place n.side n.fields)) p.answer.is
-    (refined names r t at m is p needs_hold shown lawful)
+    (refined names r t at m is p versions needs_hold shown lawful)
 
 pub statements_go : NamesAlone → MovesLaw → ForwardsLaw
 statements_go names moves r t at m carrying is h =

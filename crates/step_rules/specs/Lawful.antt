@@ -28,7 +28,9 @@ use Rattle.config_laws.specs.Live.LiveFits.{MayReplaceLive, LiveAtEnd}
 use Rattle.tree_rules.specs.Classes.{all_kept}
 use Rattle.tree_rules.specs.Findings.{scope_behind, findings_of_block}
 use Rattle.made_trees.specs.Ids.{next_id}
+use Rattle.made_trees.specs.Names.{named_copies}
 use Rattle.made_trees.specs.Passes.{or_pass}
+use Rattle.config_laws.specs.Differing.{VersionsStand}
 use Rattle.config_laws.specs.FieldRule as config
 use Rattle.config_laws.specs.FieldRule.{fields_at_end}
 use Rattle.effect_laws.specs.Apart.{IsApartAt}
@@ -191,6 +193,10 @@ pub record IsSite (r : Rule) (a : Site) : Type 0 where
   -- the body is the old one with the draft in it, but for the names of copies and for a `pass` in
   -- a block that would be empty; it keeps the rules
   pub named : bare a.body ≡ bare (fill (around a.spot) (or_pass (around a.spot) a.draft))
+  pub exact :
+      a.body
+      ≡ named_copies a.spot.target.proc (a.base + r.named)
+      (fill (around a.spot) (or_pass (around a.spot) a.draft))
   pub runs : MayRunIn a.spot.target (with_body a.spot a.body)
 
 abbrev pub config_side : Side → config.Side
@@ -206,11 +212,13 @@ abbrev pub fields_at_exit : Rule → Site → List ℕ
 fields_at_exit r a =
     differ_at_end a.spot.target a.body (r.point a.spot).0 (r.point a.spot).1 (r.fields a.spot)
 
--- where its needs are met, its draft may stand for the piece
+-- where the unit's procedures refine those that they were made from and its needs are met, its
+-- draft may stand for the piece
 pub record IsLawful (r : Rule) : Type 0 where
   pub replaces :
       (a : Site)
       → IsSite r a
+      → VersionsStand a.spot.target.unit a.spot.target.origins
       → Each (IsMet a.spot.target) (r.needs a.spot)
       → Replaces a.spot a.draft (fields_at_exit r a)
 

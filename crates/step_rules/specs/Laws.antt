@@ -11,6 +11,7 @@ use Rattle.tree_laws.specs.Findings.Versions.{has_room, with_version}
 use Rattle.cursor_forward.specs.Forwards.{Forwards}
 use Rattle.cursor_forward.specs.Shifts.{move_of}
 use Rattle.cursor_forward.specs.Proposals.{Plan}
+use Rattle.config_laws.specs.Differing.{VersionsStand}
 use Rattle.step_rules.specs.Rule.{Target, Need, Got, Rule}
 use Rattle.step_rules.specs.Owing.{AreShown, shape_alone, owed_needs, findings_of_needs}
 use Rattle.step_rules.specs.Answer.{proposed}
@@ -43,6 +44,7 @@ MeaningLaw =
     (r : Rule) (t : Target) (at : Path) (m : Plan)
     → IsLawful r
     → IsTarget t
+    → VersionsStand t.unit t.origins
     → proposed r t at ≡ Got m
     → AreShown m.must
     → Refines (program_world t.unit) t.proc m.proc

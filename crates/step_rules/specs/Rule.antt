@@ -4,6 +4,7 @@ use Rattle.std.specs.Prelude.{ℕ, zero, List, [], Option, None}
 use Rattle.exo_tree.specs.Tree.{Block, Procedure, Program}
 use Rattle.exo_tree.specs.Places.{Path, Opened}
 use Rattle.meaning_laws.specs.Facts.{Fact}
+use Rattle.config_laws.specs.Differing.{Origin}
 use Rattle.cursor_forward.specs.Cursors.{Side, Before}
 use Rattle.cursor_forward.specs.Causes.{Cause}
 use Rattle.cursor_forward.specs.Shifts.{Shift}
@@ -14,9 +15,10 @@ pub data Tried (T : Type 0) : Type 0 where
   Got : T → Tried T
   Not : Cause → Tried T
 
--- a procedure of a unit, with its number there
+-- a procedure of a unit, with its number there, and how those of the unit were made
 pub record Target : Type 0 where
   pub unit : Program
+  pub origins : List Origin
   pub number : ℕ
   pub proc : Procedure
 

@@ -54,6 +54,7 @@ target_of p = record {
     fields = record { config = codes "Cfg"; name = codes "s"; kind = Index } ∷ [];
     memories = plain_cells ∷ [];
   };
+  origins = [];
   number = 0;
   proc = p;
 }

@@ -52,7 +52,7 @@ rooted_is p h = ap (λ t. if t then roots_of p else no_roots) h
 
 pub simplify_is_lawful : IsLawful simplify_rule
 simplify_is_lawful = record {
-  replaces = λ a is met. same (λ first u good come stands.
+  replaces = λ a is versions met. same (λ first u good come stands.
       let s = a.spot in
       let at = reading_of s.target in
       let there = comes_there s is.spot first u good come in

@@ -296,7 +296,7 @@ module _ (f : Form) (k : ℕ) (name : List ℕ) (a : Site) (is : IsSite (bind_ru
 
 pub bind_is_lawful : (f : Form) (k : ℕ) (name : List ℕ) → IsLawful (bind_rule f k name)
 bind_is_lawful f k name = record {
-  replaces = λ a is met. (
+  replaces = λ a is versions met. (
       let d = made_of (storing f k (old a.spot)) (bound_store (scope_here a.spot) name a.base) a.draft is.drafted in
       subst (λ b. Replaces a.spot b (fields_at_exit (bind_rule f k name) a)) d.made
       (bound_stands f k name a is d.of (storing_is f k (old a.spot) d.of d.found))

@@ -47,6 +47,7 @@ adds cell = record {
 abbrev target_of : Procedure → Target
 target_of p = record {
   unit = record { procedures = p ∷ []; fields = []; memories = plain_cells ∷ [] };
+  origins = [];
   number = 0;
   proc = p;
 }

@@ -12,8 +12,8 @@ use Rattle.exo_meaning.specs.Units.{are_distinct}
 use Rattle.meaning_laws.proofs.Substitute.{and_parts}
 use Rattle.exo_meaning.proofs.Frame.{or_parts}
 use Rattle.meaning_laws.proofs.Scoped.{not_true}
-use Rattle.made_trees.specs.Names.{Name, Naming, is_in, free_name, named_by, with_names, first_naming, top_names}
-use Rattle.made_trees.specs.Names.{with_binder, name_statements, name_statement}
+use Rattle.made_trees.specs.Names.{Name, Naming, is_in, free_name, named_by, with_names, first_naming, Tops}
+use Rattle.made_trees.specs.Names.{tops, with_binder, name_statements, name_statement}
 use Rattle.tree_laws.proofs.OfMade.Names.{ids_stay}
 use Rattle.call_laws.proofs.OfNames.Expressions.{control, controls, condition, datum, coords, argument, arguments}
 use Rattle.call_laws.specs.Names.Copies.{NoCopies, BodiesWithoutCopies}
@@ -91,7 +91,7 @@ module _ (copies : ℕ) where
       } ∷ []) h
 
   mutual
-    given : (b : Block) (top : List Name) (n : Naming) → AreOld (binders b)
+    given : (b : Block) (top : Tops) (n : Naming) → AreOld (binders b)
         → (name_statements copies top n b).given ≡ (n.given ++ owned b)
     given end top n h = sym (nothing_behind n.given)
     given (next a b) top n h =
@@ -100,7 +100,7 @@ module _ (copies : ℕ) where
         ∙ ap (λ xs. xs ++ owned b) (given_below a top n p.0)
         ∙ append_assoc (n.given) (owned_below a) (owned b)
 
-    given_below : (a : Statement) (top : List Name) (n : Naming) → AreOld (binders_below a)
+    given_below : (a : Statement) (top : Tops) (n : Naming) → AreOld (binders_below a)
         → (name_statement copies top n a).given ≡ (n.given ++ owned_below a)
     given_below (Assign x is e) top n h = sym (nothing_behind n.given)
     given_below (Reduce x is e) top n h = sym (nothing_behind n.given)
@@ -108,19 +108,19 @@ module _ (copies : ℕ) where
     given_below Pass top n h = sym (nothing_behind n.given)
     given_below (If c a b) top n h =
         let p = all_parts (λ x. nat_lt x copies) (binders a) (binders b) h in
-        let first = name_statements copies (top_names copies a) n a in
-        given b (top_names copies b) (record first { scope = n.scope }) p.1
-        ∙ ap (λ xs. xs ++ owned b) (given a (top_names copies a) n p.0)
+        let first = name_statements copies (tops copies a) n a in
+        given b (tops copies b) (record first { scope = n.scope }) p.1
+        ∙ ap (λ xs. xs ++ owned b) (given a (tops copies a) n p.0)
         ∙ append_assoc (n.given) (owned a) (owned b)
     given_below (For i lo hi b) top n h =
         let p = and_parts (nat_lt i.id copies) (list_all (λ x. nat_lt x copies) (binders b)) h in
-        given b (top_names copies b) (with_binder copies top n i) p.1
-        ∙ ap (λ xs. xs ++ owned b) (one_given top n i p.0)
+        given b (tops copies b) (with_binder copies top.all n i) p.1
+        ∙ ap (λ xs. xs ++ owned b) (one_given top.all n i p.0)
         ∙ append_assoc (n.given) (i ∷ []) (owned b)
     given_below (Alloc x cell dims memory) top n h =
-        one_given top n x (and_parts (nat_lt x.id copies) true h).0
+        one_given top.own n x (and_parts (nat_lt x.id copies) true h).0
     given_below (View w x coords) top n h =
-        one_given top n w (and_parts (nat_lt w.id copies) true h).0
+        one_given top.own n w (and_parts (nat_lt w.id copies) true h).0
     given_below (Call k args) top n h = sym (nothing_behind n.given)
 
 -- ---- names that are their own
@@ -194,7 +194,7 @@ module _ (gs : List Binder) where
 
 pub no_copies : NoCopies
 no_copies p copies b old distinct =
-    ap (λ gs. mapped_block (with_names gs) b) (given copies b (top_names copies b) (first_naming p) old)
+    ap (λ gs. mapped_block (with_names gs) b) (given copies b (tops copies b) (first_naming p) old)
     ∙ block (owned b) b (all_stay (owned b) (subst (λ xs. are_distinct xs ≡ true) (owned_ids b) distinct))
 
 -- the last part of a list in which no id comes twice

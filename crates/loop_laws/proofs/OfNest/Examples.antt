@@ -58,6 +58,7 @@ plain_cells = record {
 abbrev pub with_fields : List ConfigField → Procedure → Target
 with_fields fields p = record {
   unit = record { procedures = p ∷ []; fields = fields; memories = plain_cells ∷ [] };
+  origins = [];
   number = 0;
   proc = p;
 }

@@ -18,6 +18,7 @@ use Rattle.cursor_forward.specs.Cursors.{Before}
 use Rattle.cursor_forward.specs.Forwards.{Forwards}
 use Rattle.cursor_forward.specs.Shifts.{at_index, edits_of, move_of}
 use Rattle.cursor_forward.specs.Proposals.{Plan}
+use Rattle.config_laws.proofs.Derived.{no_versions}
 use Rattle.step_rules.specs.Rule.{Tried, Got, Not, Target}
 use Rattle.step_rules.specs.Answer.{proposed}
 use Rattle.step_rules.specs.Lawful.{IsTarget}
@@ -188,7 +189,8 @@ both_planned = refl
 pub both_refines : MeaningLaw → Refines (program_world (target_of both).unit) both plan.proc []
 both_refines law =
     law (fission_rule 1) (target_of both) (at_index 0) plan (fission_is_lawful 1) both_is_target
-    both_planned (All-from_recursion IsClosed must (no_same_turn, tt))
+    (no_versions (target_of both).unit) both_planned
+    (All-from_recursion IsClosed must (no_same_turn, tt))
 
 pub both_forwards : ForwardsLaw → Forwards (move_of plan.edits) both plan.proc
 both_forwards law =
@@ -263,8 +265,8 @@ pub write_refines : MeaningLaw
     → Refines (program_world (over_n write_first).unit) (over_n write_first).proc write_plan.proc []
 write_refines law =
     law (fission_rule 1) (over_n write_first) (at_index 0) write_plan (fission_is_lawful 1)
-    (record { unit = write_is_unit; there = refl; ids = refl }) write_planned
-    (All-from_recursion IsClosed [] tt)
+    (record { unit = write_is_unit; there = refl; ids = refl })
+    (no_versions (over_n write_first).unit) write_planned (All-from_recursion IsClosed [] tt)
 
 -- n is 2, and x has two cells
 abbrev two_cells : State

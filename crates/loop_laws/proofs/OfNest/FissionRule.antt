@@ -45,7 +45,7 @@ module _ (count : ℕ) (a : Site) (is : IsSite (fission_rule count) a) where
 
 pub fission_is_lawful : (count : ℕ) → IsLawful (fission_rule count)
 fission_is_lawful count = record {
-  replaces = λ a is met. (
+  replaces = λ a is versions met. (
       let of = made count a is in
       let needs = subst (λ o. Each (IsMet a.spot.target)
       (of_parting (fission_needs a.spot.piece.path) o)) of.found met in

@@ -355,7 +355,7 @@ module _ (a : Site) (is : IsSite fuse_rule a) (p : Two) (two : IsTwo (old a.spot
 
 pub fuse_is_lawful : IsLawful fuse_rule
 fuse_is_lawful = record {
-  replaces = λ a is met. (
+  replaces = λ a is versions met. (
       let of = is_fused (old a.spot) a.draft is.drafted in
       let p = of.of in
       let needs = subst (λ o. Each (IsMet a.spot.target)

@@ -16,6 +16,7 @@ use Rattle.cursor_forward.specs.Cursors.{Before}
 use Rattle.cursor_forward.specs.Forwards.{Forwards}
 use Rattle.cursor_forward.specs.Shifts.{at_index, edits_of, move_of}
 use Rattle.cursor_forward.specs.Proposals.{Plan}
+use Rattle.config_laws.proofs.Derived.{no_versions}
 use Rattle.step_rules.specs.Rule.{Got, Not}
 use Rattle.step_rules.specs.Answer.{proposed}
 use Rattle.step_rules.specs.Lawful.{IsTarget}
@@ -173,7 +174,8 @@ pub copying_refines : MeaningLaw
     → Refines (program_world (target_of copying).unit) copying plan.proc []
 copying_refines law =
     law fuse_rule (target_of copying) (at_index 0) plan fuse_is_lawful copying_is_target
-    copying_planned (All-from_recursion IsClosed must (no_same_turn, tt))
+    (no_versions (target_of copying).unit) copying_planned
+    (All-from_recursion IsClosed must (no_same_turn, tt))
 
 pub copying_forwards : ForwardsLaw → Forwards (move_of plan.edits) copying plan.proc
 copying_forwards law =

@@ -18,6 +18,7 @@ use Rattle.cursor_forward.specs.Cursors.{Before}
 use Rattle.cursor_forward.specs.Forwards.{Forwards}
 use Rattle.cursor_forward.specs.Shifts.{at_index, edits_of, move_of}
 use Rattle.cursor_forward.specs.Proposals.{Plan}
+use Rattle.config_laws.proofs.Derived.{no_versions}
 use Rattle.step_rules.specs.Rule.{Got, Not}
 use Rattle.step_rules.specs.Answer.{proposed}
 use Rattle.step_rules.specs.Lawful.{IsTarget}
@@ -179,7 +180,7 @@ pub summing_refines : MeaningLaw
     → Refines (program_world (target_of summing).unit) summing plan.proc []
 summing_refines law =
     law reorder_rule (target_of summing) (at_index 0) plan reorder_is_lawful summing_is_target
-    summing_planned (All-from_recursion IsClosed [] tt)
+    (no_versions (target_of summing).unit) summing_planned (All-from_recursion IsClosed [] tt)
 
 pub summing_forwards : ForwardsLaw → Forwards (move_of plan.edits) summing plan.proc
 summing_forwards law =
@@ -313,5 +314,6 @@ pub small_refines : MeaningLaw
     → Refines (program_world (target_of small).unit) small small_plan.proc []
 small_refines law =
     law reorder_rule (target_of small) (at_index 0) small_plan reorder_is_lawful
-    (record { unit = small_is_unit; there = refl; ids = refl }) small_planned
+    (record { unit = small_is_unit; there = refl; ids = refl })
+    (no_versions (target_of small).unit) small_planned
     (All-from_recursion IsClosed small_must (no_crossing, tt))

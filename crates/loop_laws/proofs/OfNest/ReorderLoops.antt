@@ -219,7 +219,7 @@ module _ (a : Site) (is : IsSite reorder_rule a) (n : Nest) (found : nest_of (ol
 
 pub reorder_is_lawful : IsLawful reorder_rule
 reorder_is_lawful = record {
-  replaces = λ a is met. (
+  replaces = λ a is versions met. (
       let made = made_of (nest_of (old a.spot)) turned a.draft is.drafted in
       let n = made.of in
       let at_place =

@@ -72,7 +72,7 @@ commuted_step world x s (Call k args) b h = cc
 
 pub commute_is_lawful : (x : ExprPattern) → IsLawful (commute_rule x)
 commute_is_lawful x = record {
-  replaces = λ a is met. same (λ first u good come stands.
+  replaces = λ a is versions met. same (λ first u good come stands.
       let d = made_of (commuted_alone x (old a.spot)) (λ b. next b end) a.draft is.drafted in
       let found = both_found (alone_in (old a.spot)) (commuted_statement x) d.of d.found in
       ap (λ b. run (world_of a.spot) b u) (alone_is (old a.spot) found.0 found.1)

@@ -16,6 +16,7 @@ use Rattle.tree_laws.specs.Findings.Versions.{with_version}
 use Rattle.cursor_forward.specs.Forwards.{Forwards}
 use Rattle.cursor_forward.specs.Shifts.{Shift, at_index, stays, edits_of, alone, move_of}
 use Rattle.cursor_forward.specs.Proposals.{Plan}
+use Rattle.config_laws.proofs.Derived.{no_versions}
 use Rattle.step_rules.specs.Rule.{Got, Not, Target}
 use Rattle.step_rules.specs.Owing.{AreShown}
 use Rattle.step_rules.specs.Answer.{proposed}
@@ -60,7 +61,7 @@ abbrev unit_of : Block → Program
 unit_of b = record { procedures = of_body b ∷ []; fields = []; memories = plain_cells ∷ [] }
 
 abbrev target_of : Block → Target
-target_of b = record { unit = unit_of b; number = 0; proc = of_body b }
+target_of b = record { unit = unit_of b; origins = []; number = 0; proc = of_body b }
 
 abbrev planned : Procedure → ℕ → ℕ → List Shift → Plan
 planned q old new shifts = record {
@@ -126,8 +127,8 @@ pub sides_are_alike :
     MeaningLaw → Refines (program_world (unit_of adds)) (of_body adds) (of_body adds_in_turn) []
 sides_are_alike law =
     law (commute_rule sum) (target_of adds) (at_index 0)
-    (planned (of_body adds_in_turn) 1 1 (stays 1)) (commute_is_lawful sum) is_target sides_change
-    none_owed
+    (planned (of_body adds_in_turn) 1 1 (stays 1)) (commute_is_lawful sum) is_target
+    (no_versions (target_of adds).unit) sides_change none_owed
 
 pub version_is_kept : IsUnit (with_version (unit_of adds) (of_body adds_in_turn))
 version_is_kept =

@@ -56,7 +56,7 @@ same_block h = cc
 
 pub delete_pass_is_lawful : IsLawful delete_pass_rule
 delete_pass_is_lawful = record {
-  replaces = λ a is met. same (λ first u good come stands.
+  replaces = λ a is versions met. same (λ first u good come stands.
       sym (ap (λ f. f u) (cleared_run (world_of a.spot) (old a.spot)))
       ∙ ap (λ b. run (world_of a.spot) b u) (same_block is.drafted));
 }

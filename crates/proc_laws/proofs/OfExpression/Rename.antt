@@ -22,7 +22,7 @@ same_block h = cc
 
 pub rename_is_lawful : (name : List ℕ) → IsLawful (rename_rule name)
 rename_is_lawful name = record {
-  replaces = λ a is met. same (λ first u good come stands.
+  replaces = λ a is versions met. same (λ first u good come stands.
       let none = nothing_opened a.spot.target.proc.body a.spot.opened
       (subst (λ (p : Piece). opened p.count p.path a.spot.target.proc.body ≡ Some a.spot.opened)
       (sym (same_piece is.chosen)) is.spot.opens) in

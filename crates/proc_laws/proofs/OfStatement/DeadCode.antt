@@ -132,7 +132,7 @@ branch_may_stand s test a b main but is goes = by (cond main a b) refl
 
 pub keep_is_lawful : (keep : Branch) → IsLawful (keep_rule keep)
 keep_is_lawful keep = record {
-  replaces = λ a is met. (
+  replaces = λ a is versions met. (
       let but = fields_at_exit (keep_rule keep) a in
       let on = on_fork keep a is in
       let k = on.fork in
@@ -229,7 +229,7 @@ no_turn scene l h =
 
 pub empty_loop_is_lawful : IsLawful empty_loop_rule
 empty_loop_is_lawful = record {
-  replaces = λ a is met. (
+  replaces = λ a is versions met. (
       let but = fields_at_exit empty_loop_rule a in
       let on = on_loop loop_of (λ l base. next Pass end) a is.at is.chosen is.made is.drafted in
       let l = on.loop in

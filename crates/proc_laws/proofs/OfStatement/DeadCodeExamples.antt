@@ -17,6 +17,7 @@ use Rattle.cursor_forward.specs.Causes.{WrongShape, NameTaken}
 use Rattle.cursor_forward.specs.Forwards.{Forwards}
 use Rattle.cursor_forward.specs.Proposals.{Plan}
 use Rattle.cursor_forward.specs.Shifts.{at_index, move_of}
+use Rattle.config_laws.proofs.Derived.{no_versions}
 use Rattle.step_rules.specs.Lawful.{IsTarget}
 use Rattle.step_rules.specs.Laws.{MeaningLaw, ForwardsLaw}
 use Rattle.step_rules.specs.Owing.{AreShown, owed_for}
@@ -150,7 +151,7 @@ pub first_refines : MeaningLaw
     → Refines (program_world (unit_of first_taken)) (of_body first_taken) (of_body fill_x) []
 first_refines law =
     law (keep_rule Main) (target_of first_taken) (at_index 0) first_plan (keep_is_lawful Main)
-    first_target first_planned first_is_shown
+    first_target (no_versions (target_of first_taken).unit) first_planned first_is_shown
 
 pub first_forwards : ForwardsLaw
     → Forwards (move_of first_plan.edits) (of_body first_taken) (of_body fill_x)
@@ -197,7 +198,7 @@ pub second_refines : MeaningLaw
     → Refines (program_world (unit_of second_taken)) (of_body second_taken) (of_body fill_x) []
 second_refines law =
     law (keep_rule Else) (target_of second_taken) (at_index 0) second_plan (keep_is_lawful Else)
-    second_target second_planned second_is_shown
+    second_target (no_versions (target_of second_taken).unit) second_planned second_is_shown
 
 abbrev none_must : List Owed
 none_must = owed_for (target_of (turns 3 1)) (Says (at_index 0) (Holds (Le (number 1) (number 3))))
@@ -230,7 +231,7 @@ pub none_refines : MeaningLaw
     → Refines (program_world (unit_of (turns 3 1))) (of_body (turns 3 1)) (of_body (next Pass end)) []
 none_refines law =
     law empty_loop_rule (target_of (turns 3 1)) (at_index 0) none_plan empty_loop_is_lawful
-    none_target none_planned none_is_shown
+    none_target (no_versions (target_of (turns 3 1)).unit) none_planned none_is_shown
 
 pub none_forwards : ForwardsLaw
     → Forwards (move_of none_plan.edits) (of_body (turns 3 1)) (of_body (next Pass end))

@@ -13,6 +13,7 @@ use Rattle.cursor_forward.specs.Causes.{WrongShape, ConfigWrite}
 use Rattle.cursor_forward.specs.Forwards.{Forwards}
 use Rattle.cursor_forward.specs.Proposals.{Plan}
 use Rattle.cursor_forward.specs.Shifts.{Shift, at_index, range, move_of}
+use Rattle.config_laws.proofs.Derived.{no_versions}
 use Rattle.step_rules.specs.Answer.{proposed}
 use Rattle.step_rules.specs.Lawful.{IsTarget}
 use Rattle.step_rules.specs.Laws.{MeaningLaw, ForwardsLaw}
@@ -137,7 +138,8 @@ is_target =
 pub lift_refines : MeaningLaw
     → Refines (program_world (unit_of both)) (of_body both) (of_body both_lifted) []
 lift_refines law =
-    law lift_rule (target_of both) (inside 1) plan lift_is_lawful is_target is_planned none_owed
+    law lift_rule (target_of both) (inside 1) plan lift_is_lawful is_target
+    (no_versions (target_of both).unit) is_planned none_owed
 
 pub lift_forwards : ForwardsLaw
     → Forwards (move_of plan.edits) (of_body both) (of_body both_lifted)

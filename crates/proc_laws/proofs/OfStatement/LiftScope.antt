@@ -297,7 +297,7 @@ module _ (a : Site) (is : IsSite lift_rule a) where
 
 pub lift_is_lawful : IsLawful lift_rule
 lift_is_lawful = record {
-  replaces = λ a is met.
+  replaces = λ a is versions met.
       let o = lifting_of (old a.spot) in
       let d = made_of o (λ x. lifted x a.base) a.draft is.drafted in
       subst (λ b. Replaces a.spot b (fields_at_exit lift_rule a)) d.made

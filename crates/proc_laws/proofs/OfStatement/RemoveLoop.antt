@@ -245,7 +245,7 @@ has_turn s l is single was met first u good come =
 
 pub remove_is_lawful : IsLawful remove_rule
 remove_is_lawful = record {
-  replaces = λ a is met. (
+  replaces = λ a is versions met. (
       let on = on_loop removable (λ l base. l.body) a is.at is.chosen is.made is.drafted in
       let l = on.loop in
       let loop = removable_is (old a.spot) l on.found in

@@ -16,6 +16,7 @@ use Rattle.cursor_forward.specs.Causes.{WrongShape, NameTaken, NotIdempotent}
 use Rattle.cursor_forward.specs.Forwards.{Forwards}
 use Rattle.cursor_forward.specs.Proposals.{Plan}
 use Rattle.cursor_forward.specs.Shifts.{at_index, range, move_of}
+use Rattle.config_laws.proofs.Derived.{no_versions}
 use Rattle.step_rules.specs.Lawful.{IsTarget}
 use Rattle.step_rules.specs.Laws.{MeaningLaw, ForwardsLaw}
 use Rattle.step_rules.specs.Owing.{AreShown, owed_for}
@@ -141,7 +142,7 @@ pub remove_refines : MeaningLaw
     (of_body fill_x) []
 remove_refines law =
     law remove_rule (target_of (four_times fill_x)) (at_index 0) plan remove_is_lawful is_target
-    is_planned is_shown
+    (no_versions (target_of (four_times fill_x)).unit) is_planned is_shown
 
 pub remove_forwards : ForwardsLaw
     → Forwards (move_of plan.edits) (of_body (four_times fill_x)) (of_body fill_x)

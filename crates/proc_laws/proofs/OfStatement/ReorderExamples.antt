@@ -18,6 +18,7 @@ use Rattle.cursor_forward.specs.Proposals.{Plan}
 use Rattle.cursor_forward.specs.Shifts.{at_index, move_of}
 use Rattle.effect_laws.specs.Fits.{neighbours_conflict}
 use Rattle.place_laws.specs.Order.Reorder.{pair}
+use Rattle.config_laws.proofs.Derived.{no_versions}
 use Rattle.step_rules.specs.Lawful.{IsTarget}
 use Rattle.step_rules.specs.Laws.{MeaningLaw, ForwardsLaw}
 use Rattle.step_rules.specs.Owing.{AreShown, owed_for}
@@ -149,7 +150,8 @@ is_target =
 pub reorder_refines : MeaningLaw
     → Refines (program_world (unit_of two)) (of_body two) (of_body two_turned) []
 reorder_refines law =
-    law reorder_rule (target_of two) (at_index 0) plan reorder_is_lawful is_target is_planned is_shown
+    law reorder_rule (target_of two) (at_index 0) plan reorder_is_lawful is_target
+    (no_versions (target_of two).unit) is_planned is_shown
 
 pub reorder_forwards : ForwardsLaw
     → Forwards (move_of plan.edits) (of_body two) (of_body two_turned)

@@ -385,7 +385,7 @@ apart_of s o n found met =
 
 pub reorder_is_lawful : IsLawful reorder_rule
 reorder_is_lawful = record {
-  replaces = λ a is met. (
+  replaces = λ a is versions met. (
       let s = a.spot in
       let unit = s.target.unit in
       let on = on_neighbours a is in

@@ -52,7 +52,7 @@ unit_of b =
     record { procedures = of_body b ∷ []; fields = flag ∷ []; memories = plain_cells ∷ [] }
 
 abbrev pub target_of : Block → Target
-target_of b = record { unit = unit_of b; number = 0; proc = of_body b }
+target_of b = record { unit = unit_of b; origins = []; number = 0; proc = of_body b }
 
 -- the unit is well formed where its procedure is
 pub target_is : (b : Block)

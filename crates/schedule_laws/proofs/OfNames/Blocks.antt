@@ -10,7 +10,7 @@ use Rattle.text_show_laws.specs.Named.{IsNamedStatement, IsNamedBlock}
 use Rattle.text_show_laws.proofs.Each.{each_more}
 use Rattle.made_trees.specs.Passes.{or_pass, is_alone}
 use Rattle.made_trees.specs.Names.{Naming, free_name, first_free, name_given, with_binder}
-use Rattle.made_trees.specs.Names.{top_names, name_statement, name_statements, closed, named_by}
+use Rattle.made_trees.specs.Names.{Tops, tops, name_statement, name_statements, closed, named_by}
 use Rattle.made_trees.specs.Names.{with_names, first_naming, is_in}
 use Rattle.schedule_laws.specs.Names.Rules.{CopiesAreNamed}
 use Rattle.schedule_laws.proofs.OfNames.Numbered.{numbered_is_name}
@@ -120,32 +120,32 @@ module _ (copies : ℕ) where
       (given_named top n x k, tt)
 
   mutual
-    statements_given : (top : List (List ℕ)) (n : Naming) (b : Block) → AreGiven n
+    statements_given : (top : Tops) (n : Naming) (b : Block) → AreGiven n
         → IsNamedBlock b → AreGiven (name_statements copies top n b)
     statements_given top n end h k = h
     statements_given top n (next a b) h k =
         statements_given top (name_statement copies top n a) b (statement_given top n a h k.0) k.1
 
-    statement_given : (top : List (List ℕ)) (n : Naming) (a : Statement) → AreGiven n
+    statement_given : (top : Tops) (n : Naming) (a : Statement) → AreGiven n
         → IsNamedStatement a → AreGiven (name_statement copies top n a)
     statement_given top n (Assign x is e) h k = h
     statement_given top n (Reduce x is e) h k = h
     statement_given top n (Config f a) h k = h
     statement_given top n Pass h k = h
     statement_given top n (If c a b) h k =
-        let one = name_statements copies (top_names copies a) n a in
-        statements_given (top_names copies b) (closed n one) b
-        (statements_given (top_names copies a) n a h k.0) k.1
+        let one = name_statements copies (tops copies a) n a in
+        statements_given (tops copies b) (closed n one) b
+        (statements_given (tops copies a) n a h k.0) k.1
     statement_given top n (For i lo hi b) h k =
-        statements_given (top_names copies b) (with_binder copies top n i) b
-        (with_given top n i h k.0) k.1
-    statement_given top n (Alloc x cell dims memory) h k = with_given top n x h k
-    statement_given top n (View w x coords) h k = with_given top n w h k
+        statements_given (tops copies b) (with_binder copies top.all n i) b
+        (with_given top.all n i h k.0) k.1
+    statement_given top n (Alloc x cell dims memory) h k = with_given top.own n x h k
+    statement_given top n (View w x coords) h k = with_given top.own n w h k
     statement_given top n (Call i args) h k = h
 
 pub copies_are_named : CopiesAreNamed
 copies_are_named p copies b h =
-    let top = top_names copies b in
+    let top = tops copies b in
     let given = (name_statements copies top (first_naming p) b).given in
     mapped_named (with_names given)
     (by_given given (statements_given copies top (first_naming p) b tt h)) b h

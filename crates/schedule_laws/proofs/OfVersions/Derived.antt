@@ -27,6 +27,7 @@ use Rattle.step_rules.specs.Rule.{Target, Got, Rule}
 use Rattle.step_rules.specs.Answer.{proposed}
 use Rattle.step_rules.specs.Owing.{AreShown}
 use Rattle.step_rules.specs.Lawful.{IsTarget, IsLawful, config_side, differ_at_end}
+use Rattle.config_laws.proofs.Derived.{no_versions}
 use Rattle.step_rules.specs.Laws.{KeptLaw, MeaningLaw}
 use Rattle.step_rules.proofs.Proposals.{proposal_of}
 use Rattle.tree_laws.specs.Findings.Versions.{has_room, with_version}
@@ -277,7 +278,7 @@ module _ (laws : StepLaws) (v : Versions) (derived : AreDerived v) (k : ℕ) (p 
         let but = differ_at_end t m.proc.body m.place m.side m.fields in
         subst (Refines (program_world longer) p m.proc) (sym new_fields)
         (grown p m.proc but (below k p there) new_below
-        (laws.meaning r t at m lawful is_target got owed));
+        (laws.meaning r t at m lawful is_target (no_versions t.unit) got owed));
   }
 
   new_parent : parent_at w (length ps) ≡ Some k

@@ -62,8 +62,9 @@ proposed_step v name k (rule.Not cause) = Refused (Step cause)
 proposed_step v name k (rule.Got m) =
     checked_step v name k m (list_fault (with_version v.unit m.proc) m.proc)
 
+-- no rule that lines ask for looks at how the procedures of the unit were made
 abbrev pub target : Versions → ℕ → Procedure → Target
-target v k p = record { unit = v.unit; number = k; proc = p }
+target v k p = record { unit = v.unit; origins = []; number = k; proc = p }
 
 -- ---- operators
 

@@ -11,7 +11,7 @@ use Rattle.exo_tree.specs.Mapped.{mapped_argument, mapped_statement, mapped_bloc
 use Rattle.exo_meaning.specs.Binders.{binders, step_binders}
 use Rattle.place_laws.specs.Scope.Bare.{bare_binder, bare_statement, bare}
 use Rattle.place_laws.proofs.OfScope.Bare.{same_but_for_names}
-use Rattle.made_trees.specs.Names.{named_by, with_names, first_naming, top_names, name_statements}
+use Rattle.made_trees.specs.Names.{named_by, with_names, first_naming, tops, name_statements}
 use Rattle.tree_laws.specs.Made.Laws.{NamesAlone, IdsStay, NamedCopiesRunAlike}
 
 -- an expression has no binder
@@ -121,7 +121,7 @@ module _ (given : List Binder) where
     whole (next a b) = ap₂ next (statement a) (whole b)
 
 pub names_alone : NamesAlone
-names_alone p copies b = whole (name_statements copies (top_names copies b) (first_naming p) b).given b
+names_alone p copies b = whole (name_statements copies (tops copies b) (first_naming p) b).given b
 
 -- ids do not stand in names
 mutual
@@ -142,10 +142,10 @@ mutual
 
 pub ids_stay : IdsStay
 ids_stay p copies b =
-    let named = mapped_block (with_names (name_statements copies (top_names copies b) (first_naming p) b).given) b in
+    let named = mapped_block (with_names (name_statements copies (tops copies b) (first_naming p) b).given) b in
     sym (bare_binders named) ∙ ap binders (names_alone p copies b) ∙ bare_binders b
 
 pub run_alike : NamedCopiesRunAlike
 run_alike world p copies b =
-    let named = mapped_block (with_names (name_statements copies (top_names copies b) (first_naming p) b).given) b in
+    let named = mapped_block (with_names (name_statements copies (tops copies b) (first_naming p) b).given) b in
     same_but_for_names world named b (names_alone p copies b)

@@ -15,6 +15,5 @@ returns c =
     (sym c.in-Some-get.ensures)
     (step_marked ps q.body (origin o).place (origin o).side (origin o).fields
     c.in_ok-written.written c.args.set.now c.add_left.new.set
-    (c.requires.placed c.args.k (origin o) there)
     (λ f l. c.in_ok-written.ensures f (let e = c.requires.wide in omega arith))
     c.add_left.ensures)

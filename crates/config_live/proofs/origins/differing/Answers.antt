@@ -17,5 +17,5 @@ returns c =
     (λ f. is_listed f (fields_since c.args.unit.now.procs os c.args.from.0 c.args.p.0 c.args.p.0))
     c.add_since.new.set
     (subst (λ z. Marked (λ f. is_listed f (fields_since c.args.unit.now.procs os c.args.from.0 c.args.p.0 c.args.p.0)) z c.add_since.new.set)
-    (c.in_ok-set.ensures ∙ ap (λ m. replicate m false) c.len.ensures) c.in_ok-add_since.ensures))
+    (c.in_ok-set.ensures ∙ ap (λ m. replicate m false) c.len-count.ensures) c.in_ok-add_since.ensures))
     c.to_vec.ensures

@@ -1,34 +1,15 @@
-use Rattle.std.proofs.Common.{◌≡◌, ◌&&◌, nat_lt, length, Option, Some, None, Bool, false, sym, ap, subst, ◌∙◌}
-use Rattle.exo_tree.specs.Tree.{block, Procedure}
+use Rattle.std.proofs.Common.{Option, Some, None, Bool, false, ap, ◌∙◌}
+use Rattle.exo_tree.specs.Tree.{Procedure}
 use Rattle.exo_tree.specs.PlainUnit.{program}
-use Rattle.config_state.specs.FieldSets.{contains}
-use Rattle.config_live.specs.Ways.{IsStart}
-use Rattle.config_live.specs.Places.{side_taken, live_from}
-use Rattle.config_live.proofs.Answer.{live_is}
+use Rattle.config_state.proofs.Sets.{if_ok}
+use Rattle.config_live.specs.Places.{side_taken, live_in_body}
 use Rattle.config_live.proofs.place.live.Goals as goal
-use Rattle.config_live.proofs.place.live.Goals.{then-there, else-there}
 
 pub returns : goal.returns
 returns c =
-    let unit = program c.args.unit.now in
-    let n = length unit.fields in
-    let ps = unit.procedures in
-    let body = block c.in-Some.found.now.body in
-    let side = side_taken c.args.side in
-    let there = c.in_ok-there.there in
-    let new = c.go_from.new.way in
-    let f = c.args.f.0 in
-    let start : IsStart n c.in_ok-way.way =
-    subst (λ m. IsStart m c.in_ok-way.way) c.len.ensures c.in_ok-way.ensures in
-    let found : c.if-there.result ≡ (there && contains new.read f) =
-    elim c.if-there.branch [
-      | then-there w ↦ w.result-is ∙ w.contains.ensures ∙ sym (ap (λ z. z && contains new.read f) w.if-there.true)
-      | else-there w ↦ w.result-is ∙ w.if-there.false ∙ sym (ap (λ z. z && contains new.read f) w.if-there.false)
-    ] in
-    found
-    ∙ live_is ps n c.args.table.now c.requires.read_first c.requires.surely_written
-    body c.args.path.now side there c.in_ok-way.way new f start c.in_ok-there.ensures
-    ∙ ap (λ (o : Option Procedure). elim o as (λ o. Bool) [
+    if_ok c.live_in_body.result _ _
+    (λ r h. h ∙ ap (λ (o : Option Procedure). elim o as (λ o. Bool) [
       | None ↦ false
-      | Some q ↦ nat_lt f n && live_from ps q.body c.args.path.now side f
-    ]) c.in-Some.ensures
+      | Some q ↦ live_in_body (program c.args.unit.now) q.body c.args.path.now (side_taken c.args.side) c.args.f.0
+    ]) c.in-Some.ensures)
+    c.live_in_body.ensures

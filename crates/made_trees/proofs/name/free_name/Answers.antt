@@ -1,6 +1,6 @@
-use Rattle.std.proofs.Common.{◌≡◌, ◌∙◌, ◌+◌, ◌-◌, suc, length, true, false, sym, ap, subst, IfOk, arith}
+use Rattle.std.proofs.Common.{◌≡◌, ◌∙◌, ◌+◌, ◌-◌, suc, length, true, false, sym, ap, ap₂, subst, IfOk, arith}
 use Rattle.made_trees.specs.Names as names
-use Rattle.made_trees.proofs.Names.{passed_by, found, none_left}
+use Rattle.made_trees.proofs.Names.{among_alike, passed_by, found, none_left}
 use Rattle.made_trees.proofs.name.free_name.Goals as goal
 
 pub returns-then-not-is_in : goal.returns-then-not-is_in
@@ -10,7 +10,7 @@ returns-then-not-is_in c =
     let k = c.loop-k.k in
     let next : k + 1 ≡ suc k = omega arith in
     let name = c.in_ok-name.ensures ∙ ap (names.numbered x) next in
-    let free : names.is_in taken (names.numbered x (suc k)) ≡ false = ap (names.is_in taken) (sym (c.as_str.ensures ∙ name)) ∙ sym c.is_in.ensures ∙ c.if-not-is_in.true in
+    let free : names.is_in taken (names.numbered x (suc k)) ≡ false = sym (among_alike x (suc k) taken) ∙ ap₂ names.is_in (sym (c.as_slice.ensures.value ∙ c.in_ok-near.ensures)) (sym (c.as_str.ensures ∙ name)) ∙ sym c.is_in.ensures ∙ c.if-not-is_in.true in
     name ∙ ap (names.numbered x) (sym (found taken x _ k c.loop-k-test.true free) ∙ c.loop-k.invariant)
 
 pub loop-k-preserved : goal.loop-k-preserved
@@ -20,7 +20,7 @@ loop-k-preserved c =
     let k = c.loop-k.k in
     let next : k + 1 ≡ suc k = omega arith in
     let name = c.in_ok-name.ensures ∙ ap (names.numbered x) next in
-    let full : names.is_in taken (names.numbered x (suc k)) ≡ true = ap (names.is_in taken) (sym (c.as_str.ensures ∙ name)) ∙ sym c.is_in.ensures ∙ c.if-not-is_in.false in
+    let full : names.is_in taken (names.numbered x (suc k)) ≡ true = sym (among_alike x (suc k) taken) ∙ ap₂ names.is_in (sym (c.as_slice.ensures.value ∙ c.in_ok-near.ensures)) (sym (c.as_str.ensures ∙ name)) ∙ sym c.is_in.ensures ∙ c.if-not-is_in.false in
     ap (λ j. names.first_free taken x (length taken - j) (suc j)) next ∙ sym (passed_by taken x _ k c.loop-k-test.true full) ∙ c.loop-k.invariant
 
 pub returns : goal.returns

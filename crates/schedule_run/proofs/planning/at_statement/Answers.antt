@@ -1,6 +1,7 @@
-use Rattle.std.proofs.Common.{◌≡◌, true, refl, sym, ap, subst}
+use Rattle.std.proofs.Common.{◌≡◌, true, refl, sym, ap, subst, ap₂, List}
 use Rattle.exo_tree.specs.Tree.{Program}
 use Rattle.exo_tree.specs.PlainProcedure.{procedure}
+use Rattle.config_laws.specs.Differing.{Origin}
 use Rattle.cursor_forward.specs.PlainProposal.{plain_proposal}
 use Rattle.cursor_forward.specs.Proposals.{Plan}
 use Rattle.step_driver.specs.PlainTarget.{target}
@@ -18,7 +19,8 @@ returns g c =
     let k = c.args.on.now.number.0 in
     let p = procedure c.args.on.now.proc.now in
     let same : target c.args.on.now ≡ lines.target v k p =
-    ap (λ (u : Program). record { unit = u; number = k; proc = p }) c.requires.unit in
+    ap₂ (λ (u : Program) (os : List Origin). record { unit = u; origins = os; number = k; proc = p })
+    c.requires.unit c.requires.origins in
     subst (λ (m : Made Plan). Makes plain_proposal m c.proposed.result)
     (sym
     (statement_there v k p (target c.args.on.now) same (λ fs. true) (plain_asked c.args.at.now)

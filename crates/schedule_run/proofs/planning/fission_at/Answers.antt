@@ -1,6 +1,7 @@
-use Rattle.std.proofs.Common.{◌≡◌, true, refl, sym, ap, subst}
+use Rattle.std.proofs.Common.{◌≡◌, true, refl, sym, ap, subst, ap₂, List}
 use Rattle.exo_tree.specs.Tree.{Program}
 use Rattle.exo_tree.specs.PlainProcedure.{procedure}
+use Rattle.config_laws.specs.Differing.{Origin}
 use Rattle.cursor_forward.specs.PlainProposal.{plain_proposal}
 use Rattle.cursor_forward.specs.Proposals.{Plan}
 use Rattle.step_driver.specs.PlainTarget.{target}
@@ -22,7 +23,8 @@ returns c =
     let k = c.args.on.now.number.0 in
     let p = procedure c.args.on.now.proc.now in
     let same : target c.args.on.now ≡ lines.target v k p =
-    ap (λ (u : Program). record { unit = u; number = k; proc = p }) c.requires.unit in
+    ap₂ (λ (u : Program) (os : List Origin). record { unit = u; origins = os; number = k; proc = p })
+    c.requires.unit c.requires.origins in
     subst (λ (m : Made Plan). Makes plain_proposal m c.proposed.result)
     (sym
     (gap_there v k p (target c.args.on.now) same (λ fs. true) (plain_asked c.args.at.now)
@@ -35,7 +37,8 @@ returns-in_err-gap c =
     let k = c.args.on.now.number.0 in
     let p = procedure c.args.on.now.proc.now in
     let same : target c.args.on.now ≡ lines.target v k p =
-    ap (λ (u : Program). record { unit = u; number = k; proc = p }) c.requires.unit in
+    ap₂ (λ (u : Program) (os : List Origin). record { unit = u; origins = os; number = k; proc = p })
+    c.requires.unit c.requires.origins in
     let e = c.in_err-gap.field-0.0 in
     made_failed plain_proposal (planned v k p (gap_call (plain_asked c.args.at.now) fission_rule))
     c.from_residual.result e c.from_residual.ensures.1

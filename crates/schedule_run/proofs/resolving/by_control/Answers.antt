@@ -1,8 +1,9 @@
-use Rattle.std.proofs.Common.{◌≡◌, sym, ap, subst}
+use Rattle.std.proofs.Common.{◌≡◌, sym, ap, subst, ap₂, List}
 use Rattle.exo_tree.specs.Tree.{Program}
 use Rattle.exo_tree.specs.PlainProcedure.{procedure}
 use Rattle.text_expressions.specs.Views.{tree_of}
 use Rattle.rules_names.specs.Arguments.{knows_fields}
+use Rattle.config_laws.specs.Differing.{Origin}
 use Rattle.cursor_forward.specs.PlainProposal.{plain_proposal}
 use Rattle.cursor_forward.specs.Proposals.{Plan}
 use Rattle.step_driver.specs.PlainTarget.{target}
@@ -23,7 +24,8 @@ returns c =
     let k = c.args.on.now.number.0 in
     let p = procedure c.args.on.now.proc.now in
     let same : target c.args.on.now ≡ lines.target v k p =
-    ap (λ (u : Program). record { unit = u; number = k; proc = p }) c.requires.unit in
+    ap₂ (λ (u : Program) (os : List Origin). record { unit = u; origins = os; number = k; proc = p })
+    c.requires.unit c.requires.origins in
     subst (λ (m : Made Plan). Makes plain_proposal m c.resolved.result)
     (sym
     (statement_there v k p (target c.args.on.now) same (λ fs. knows_fields fs (tree_of c.args.e.now))
@@ -38,7 +40,8 @@ returns-in_err-path c =
     let k = c.args.on.now.number.0 in
     let p = procedure c.args.on.now.proc.now in
     let same : target c.args.on.now ≡ lines.target v k p =
-    ap (λ (u : Program). record { unit = u; number = k; proc = p }) c.requires.unit in
+    ap₂ (λ (u : Program) (os : List Origin). record { unit = u; origins = os; number = k; proc = p })
+    c.requires.unit c.requires.origins in
     let e = c.in_err-path.field-0.0 in
     made_failed plain_proposal
     (planned v k p

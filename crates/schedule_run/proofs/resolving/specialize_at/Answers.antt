@@ -1,8 +1,9 @@
-use Rattle.std.proofs.Common.{◌≡◌, sym, ap, subst}
+use Rattle.std.proofs.Common.{◌≡◌, sym, ap, subst, ap₂, List}
 use Rattle.exo_tree.specs.Tree.{Program}
 use Rattle.exo_tree.specs.PlainProcedure.{procedure}
 use Rattle.text_expressions.specs.Views.{tree_of}
 use Rattle.rules_names.specs.Arguments.{knows_fields}
+use Rattle.config_laws.specs.Differing.{Origin}
 use Rattle.cursor_forward.specs.PlainProposal.{plain_proposal}
 use Rattle.cursor_forward.specs.Proposals.{Plan}
 use Rattle.loop_laws.specs.Specialize.{specialize_rule}
@@ -22,7 +23,8 @@ returns c =
     let k = c.args.on.now.number.0 in
     let p = procedure c.args.on.now.proc.now in
     let same : target c.args.on.now ≡ lines.target v k p =
-    ap (λ (u : Program). record { unit = u; number = k; proc = p }) c.requires.unit in
+    ap₂ (λ (u : Program) (os : List Origin). record { unit = u; origins = os; number = k; proc = p })
+    c.requires.unit c.requires.origins in
     subst (λ (m : Made Plan). Makes plain_proposal m c.specialized.result)
     (sym
     (block_there v k p (target c.args.on.now) same (λ fs. knows_fields fs (tree_of c.args.c.now))

@@ -10,4 +10,4 @@ pub returns : goal.returns
 returns g c =
     let t = target c.args.on.now in
     subst (λ (ns : List Need). IfOk c.findings_of_needs.result (λ (f : Findings). f ≡ findings_of_needs t ns))
-    (ap (map plain_need) c.deref.ensures.value ∙ c.in_ok-needs.ensures) (c.findings_of_needs.ensures t.number)
+    (ap (map plain_need) c.deref.ensures.value ∙ c.in_ok-needs.ensures) (c.findings_of_needs.ensures (t.number, t.origins))

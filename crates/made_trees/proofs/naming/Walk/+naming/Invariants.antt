@@ -3,7 +3,7 @@ use Rattle.std.proofs.Common.{◌≡◌, ◌+◌, ◌*◌, drop}
 use Rattle.exo_tree.specs.Tree.{block}
 use Rattle.exo_tree.specs.Nodes.{nodes, nodes_in}
 use Rattle.exo_tree.specs.PlainStatement.{statement}
-use Rattle.made_trees.specs.Names.{top_names, name_statements}
+use Rattle.made_trees.specs.Names.{tops, name_statements}
 use Rattle.made_trees.specs.Walked.{naming}
 use Rattle.made_trees.proofs.naming.Walk.+naming.Given as goal
 
@@ -17,4 +17,4 @@ abbrev pub decreases-statements : goal.decreases-statements
 decreases-statements l = 4 * nodes_in (block l.b.now) + 1
 
 abbrev pub invariant-statements-loop-k : goal.invariant-statements-loop-k
-invariant-statements-loop-k l = name_statements l.copies (top_names l.copies (block l.b)) (naming l.self) (block (drop l.k l.b)) ≡ name_statements l.copies (top_names l.copies (block l.b)) (naming l.initial.self) (block l.b)
+invariant-statements-loop-k l = name_statements l.copies (tops l.copies (block l.b)) (naming l.self) (block (drop l.k l.b)) ≡ name_statements l.copies (tops l.copies (block l.b)) (naming l.initial.self) (block l.b)
