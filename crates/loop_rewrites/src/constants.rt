@@ -10,16 +10,16 @@ ghost use Rattle.step_driver.specs.PlainTarget.{target, plain_piece};
 ghost use Rattle.step_driver.specs.Spots.{spot_at};
 ghost use Rattle.loop_laws.specs.UnrollLoop as plain;
 ghost use Rattle.loop_laws.specs.UnrollLoop.{constant_of, unrolling};
-ghost use Rattle.loop_rewrites.specs.Shapes.PlainLoop.{plain_loop};
+ghost use Rattle.step_targets.specs.PlainLoop.{plain_loop};
 ghost use Rattle.loop_rewrites.specs.PlainTurns.{plain_turns, with_turns, bounds_are_affine};
 
-use crate::shapes::{InBound, LoopAt, loop_at};
 use crate::turns::Turns;
 use affine_forms::{FormError, Linear, normal_form};
 use cursor_forward::StepError;
 use exo_tree::Ctrl;
 use std::alloc::Global;
 use step_driver::{Piece, Target};
+use step_targets::{InBound, LoopAt, loop_at};
 
 /// The normal form of a bound.
 #[tactic(auto, using(affine_places::proofs::Rules::rules_kept))]

@@ -1,37 +1,32 @@
 //! The step that divides the turns of a loop into groups.
-ghost use Rattle.std.specs.Prelude.{◌≡◌, ◌≤◌, ◌≤ℤ◌, ◌-ℤ◌, ℕ, pos, suc, map, option_map, IfOk};
+ghost use Rattle.std.specs.Prelude.{◌≡◌, ◌≤◌, ◌≤ℤ◌, ◌-ℤ◌, ◌&&◌, ℕ, int_le, pos, suc, IfOk, refl};
 ghost use Rattle.exo_tree.specs.Tree as tree;
 ghost use Rattle.exo_tree.specs.Tree.{block, end};
 ghost use Rattle.exo_tree.specs.PlainControl.{control, condition};
-ghost use Rattle.exo_tree.specs.PlainUnit.{program};
 ghost use Rattle.exo_tree.specs.Renaming as renaming;
 ghost use Rattle.exo_tree.specs.Substitution.{in_block};
-ghost use Rattle.exo_modes.specs.Marks.{modes_of};
-ghost use Rattle.exo_modes.specs.Seen.{table_says};
 ghost use Rattle.place_laws.specs.Scope.BranchesAtPlaces.{only_branch};
 ghost use Rattle.place_laws.specs.Order.TurnsOfTwo.{Loop};
-ghost use Rattle.cursor_forward.specs.PlainProposal.{plain_proposal};
-ghost use Rattle.step_rules.specs.Answer.{proposed};
-ghost use Rattle.step_rules.specs.Lawful.{IsTarget};
+ghost use Rattle.loop_laws.specs.Shapes as shapes;
 ghost use Rattle.loop_laws.specs.DivideLoop as plain;
 ghost use Rattle.loop_laws.specs.DivideLoop.{divisible, divide_rule};
 ghost use Rattle.loop_laws.proofs.DivideLoop.{divide_is_lawful, divide_is_carrying};
-ghost use Rattle.step_driver.specs.Outcomes.{Tries, IsKept, KeepsMeaning, Moves};
-ghost use Rattle.step_driver.specs.PlainTarget.{target, plain_piece};
-ghost use Rattle.step_driver.specs.Spots.{spot_at};
-ghost use Rattle.step_needs.specs.PlainNeed.{plain_need};
-ghost use Rattle.loop_rewrites.specs.Shapes.PlainLoop.{plain_loop};
+ghost use Rattle.step_driver.specs.PlainTarget.{target};
+ghost use Rattle.step_targets.specs.PlainLoop.{plain_loop};
 ghost use Rattle.loop_rewrites.specs.PlainTail.{plain_tail, division};
+ghost use Rattle.loop_rewrites.specs.Fits.{divisible_fits};
 
 use crate::numbers::{branch, quotient, remainder, rounded_up, turn_behind};
-use crate::shapes::{LoopAt, alone_to, inside, loop_at, one, one_shift, range_to, size};
-use crate::zero::{from_zero, zero_based};
-use cursor_forward::{Proposal, Shifts, StepError};
-use exo_tree::{Block, Cond, Ctrl, Id, Name, Path, Proc, subst};
+use crate::zero::{from_zero, is_zero};
+use cursor_forward::{Shifts, StepError};
+use exo_tree::{Block, Cond, Ctrl, Id, Name, Path, subst};
 use made_trees::Fresh;
 use std::alloc::{AllocError, Global};
-use step_driver::{Exit, Operator, Piece, Target, Writing, propose};
+use step_driver::{Piece, Target};
 use step_needs::{Fact, Need};
+use step_targets::{
+    LoopAt, OnLoop, Ruled, alone_to, one_shift, path_below, range_to, single_need, statement_count,
+};
 
 /// What becomes of the turns that fill no group: the last group is guarded, they have a loop of their own, or one that is
 /// guarded, or there are none.
@@ -43,7 +38,10 @@ pub enum Tail {
     Perfect,
 }
 
-/// The step that divides the turns of a loop into groups of `by`.
+/// The step that divides the turns of a loop into groups of `by`. It owes that there are not less than no turns, where some
+/// are left to a tail, or that all turns fill groups, where there is none. `WrongShape` where no loop that begins at the
+/// literal 0 stands there, or a group has less than 1 turn; `NameTaken` where a given name is in scope there; `LimitPassed`
+/// where the result is too large.
 #[derive(Drop)]
 pub struct Dividing<'a> {
     pub by: i64,
@@ -54,16 +52,21 @@ pub struct Dividing<'a> {
     pub tail: Tail,
 }
 
-/// The loop that is all of a piece and begins at 0, to be divided into groups of at least one turn.
-fn divisible_at<'a>(by: i64, on: &Target<'a>, piece: &Piece) -> Option<LoopAt<'a>>
-    ensures { option_map plain_loop result ≡ divisible by (spot_at (target on.now) (plain_piece piece.now)).opened.piece }
-{
-    if by < 1 {
-        return None;
+impl Ruled for Dividing<'_> {
+    ghost rule = { λ o. divide_rule (division o) };
+
+    ghost is_quiet = { λ o. refl };
+
+    ghost lawful = { λ o. divide_is_lawful (division o) };
+
+    ghost carrying = { λ o. divide_is_carrying (division o) };
+
+    fn named(&self) -> u16 {
+        2
     }
-    match loop_at(on, piece) {
-        None => None,
-        Some(l) => zero_based(l),
+
+    fn refusal(&self, _alloc: Global, _on: &Target<'_>, _piece: &Piece) -> Result<(), StepError> {
+        Ok(())
     }
 }
 
@@ -258,23 +261,6 @@ impl Dividing<'_> {
             }
         }
     }
-
-    /// What has to be shown of the upper bound.
-    fn owed(&self, alloc: Global, at: &Path, l: &LoopAt<'_>) -> Result<Vec<Need>, AllocError>
-        ensures { IfOk result (λ ns. map plain_need ns.items ≡ plain.divide_needs self.now.by (plain_tail self.now.tail) at.now (plain_loop l.now)) }
-    {
-        match self.tail {
-            Tail::Guard => Ok(Vec::new(alloc)),
-            Tail::Cut | Tail::CutAndGuard => {
-                let turns = l.hi.duplicate(alloc)?;
-                one(alloc, at, Fact::Holds(Cond::Le(Ctrl::Lit(0), turns)))
-            }
-            Tail::Perfect => {
-                let count = remainder(alloc, l.hi, self.by)?;
-                one(alloc, at, Fact::Holds(Cond::Eq(count, Ctrl::Lit(0))))
-            }
-        }
-    }
 }
 
 impl Tail {
@@ -288,99 +274,49 @@ impl Tail {
             Tail::Cut | Tail::CutAndGuard | Tail::Perfect => 2,
         }
     }
+}
 
-    /// The loop goes to the outer loop, and its body to that of the first inner loop.
-    fn shifts(self, alloc: Global, l: &LoopAt<'_>) -> Result<Shifts, AllocError>
-        ensures { IfOk result (λ s. s ≡ plain.divide_shifts (plain_tail self) (plain_loop l.now)) }
-    {
-        let count = size(l.body)?;
-        let mut all = one_shift(alloc, alone_to(inside(0), inside(0)))?;
-        all.push(range_to(inside(1), count, inside(self.depth())))?;
+impl OnLoop for Dividing<'_> {
+    ghost read = { λ o. divisible o.by };
+
+    ghost fit = { λ o l. int_le (pos 1) o.by && shapes.is_zero l.lo };
+
+    ghost make = { λ o. plain.divided (division o) };
+
+    ghost owe = { λ o. plain.divide_needs o.by (plain_tail o.tail) };
+
+    ghost go = { λ o. plain.divide_shifts (plain_tail o.tail) };
+
+    ghost reads = { λ o. divisible_fits o.by };
+
+    ghost is_on_loop = { λ o. refl };
+
+    fn fits(&self, l: &LoopAt<'_>) -> bool {
+        self.by >= 1 && is_zero(l.lo)
+    }
+
+    fn made(&self, alloc: Global, l: &LoopAt<'_>, fresh: &mut Fresh) -> Result<Block, AllocError> {
+        self.divided(alloc, l, fresh)
+    }
+
+    fn needs(&self, alloc: Global, at: &Path, l: &LoopAt<'_>) -> Result<Vec<Need>, AllocError> {
+        match self.tail {
+            Tail::Guard => Ok(Vec::new(alloc)),
+            Tail::Cut | Tail::CutAndGuard => {
+                let turns = l.hi.duplicate(alloc)?;
+                single_need(alloc, at, Fact::Holds(Cond::Le(Ctrl::Lit(0), turns)))
+            }
+            Tail::Perfect => {
+                let count = remainder(alloc, l.hi, self.by)?;
+                single_need(alloc, at, Fact::Holds(Cond::Eq(count, Ctrl::Lit(0))))
+            }
+        }
+    }
+
+    fn moved(&self, alloc: Global, l: &LoopAt<'_>) -> Result<Shifts, AllocError> {
+        let count = statement_count(l.body)?;
+        let mut all = one_shift(alloc, alone_to(path_below(0), path_below(0)))?;
+        all.push(range_to(path_below(1), count, path_below(self.tail.depth())))?;
         Ok(all)
     }
-}
-
-impl Operator for Dividing<'_> {
-    ghost rule = { λ o. divide_rule (division o) };
-
-    ghost lawful = { λ o. divide_is_lawful (division o) };
-
-    ghost carrying = { λ o. divide_is_carrying (division o) };
-
-    fn piece(&self, _alloc: Global, on: &Target<'_>, at: &Path) -> Result<Piece, StepError> {
-        let piece = Piece::one(at);
-        match divisible_at(self.by, on, &piece) {
-            None => Err(StepError::WrongShape),
-            Some(_) => Ok(piece),
-        }
-    }
-
-    fn draft(
-        &self,
-        alloc: Global,
-        on: &Target<'_>,
-        piece: &Piece,
-        _how: Writing,
-        fresh: &mut Fresh,
-    ) -> Result<Block, StepError> {
-        match divisible_at(self.by, on, piece) {
-            None => Err(StepError::WrongShape),
-            Some(l) => Ok(self.divided(alloc, &l, fresh)?),
-        }
-    }
-
-    fn named(&self) -> u16 {
-        2
-    }
-
-    fn refusal(&self, _alloc: Global, _on: &Target<'_>, _piece: &Piece) -> Result<(), StepError> {
-        Ok(())
-    }
-
-    fn needs(
-        &self,
-        alloc: Global,
-        on: &Target<'_>,
-        piece: &Piece,
-    ) -> Result<Vec<Need>, AllocError> {
-        match divisible_at(self.by, on, piece) {
-            None => Ok(Vec::new(alloc)),
-            Some(l) => self.owed(alloc, &piece.path, &l),
-        }
-    }
-
-    fn shifts(&self, alloc: Global, on: &Target<'_>, piece: &Piece) -> Result<Shifts, AllocError> {
-        match divisible_at(self.by, on, piece) {
-            None => Ok(Shifts::new(alloc)),
-            Some(l) => self.tail.shifts(alloc, &l),
-        }
-    }
-
-    fn name(&self, alloc: Global, p: &Proc) -> Result<Name, AllocError> {
-        p.name.duplicate(alloc)
-    }
-
-    fn exit(&self, alloc: Global, _on: &Target<'_>, _piece: &Piece) -> Result<Exit, AllocError> {
-        Ok(Exit::unchanged(alloc))
-    }
-}
-
-/// The procedure with the turns of the loop at a path divided into groups. It owes that there are not less than no turns,
-/// where some are left to a tail, or that all turns fill groups, where there is none. `WrongShape` where no loop that
-/// begins at the literal 0 stands there, or a group has less than 1 turn; `NameTaken` where a given name is in scope
-/// there; `LimitPassed` where the result is too large.
-pub fn divide_loop(
-    alloc: Global,
-    on: &Target<'_>,
-    at: &Path,
-    by: &Dividing<'_>,
-) -> Result<Proposal, StepError>
-    requires modes { table_says on.now.modes.now ≡ modes_of (program on.now.unit.now) }
-    requires target { IsTarget (target on.now) }
-    ensures answer { Tries plain_proposal (proposed (divide_rule (division by.now)) (target on.now) at.now) result }
-    ensures kept { IfOk result (λ m. IsKept (target on.now) (plain_proposal m)) }
-    ensures meaning { IfOk result (λ m. KeepsMeaning (target on.now) (plain_proposal m)) }
-    ensures moves { IfOk result (λ m. Moves (target on.now) (plain_proposal m)) }
-{
-    propose(alloc, on, at, by)
 }

@@ -5,13 +5,13 @@ ghost use Rattle.exo_tree.specs.PlainControl.{control};
 ghost use Rattle.loop_laws.specs.MultLoops as plain;
 ghost use Rattle.step_driver.specs.PlainTarget.{target, plain_piece};
 ghost use Rattle.step_driver.specs.Spots.{spot_at};
-ghost use Rattle.loop_rewrites.specs.Shapes.PlainLoop.{plain_loop};
+ghost use Rattle.step_targets.specs.PlainLoop.{plain_loop};
 ghost use Rattle.loop_rewrites.specs.PlainPair.{plain_pair};
 
-use crate::shapes::{LoopAt, loop_at, loop_of};
 use crate::zero::zero_based;
 use exo_tree::{Block, Ctrl};
 use step_driver::{Piece, Target};
+use step_targets::{LoopAt, loop_at, loop_of};
 
 /// A loop over a loop of so many turns, both from 0 on.
 #[derive(Clone, Copy)]

@@ -12,6 +12,7 @@ ghost use Rattle.piece_modes.specs.Own.{looks_back, sees_own_root};
 ghost use Rattle.piece_modes.specs.PlainMode.{plain_mode};
 ghost use Rattle.piece_modes.specs.Touching.{block_touches};
 ghost use Rattle.piece_modes.specs.Way.{around_of};
+ghost use Rattle.place_laws.specs.Scope.Roots.{own_roots_at};
 
 use crate::touches::{Asked, Mode};
 use crate::way::Way;
@@ -19,8 +20,17 @@ use exo_modes::{Alias, ModeTable};
 use exo_tree::{Block, Path, Proc, Unit};
 use std::alloc::{AllocError, Global};
 
-/// Whether a block touches a buffer so.
-fn touches(
+/// What names stand for at so many statements from a path on; where they are not there, at the start of the body.
+pub fn roots_at(alloc: Global, p: &Proc, path: &Path, count: u32) -> Result<Vec<Alias>, AllocError>
+    ensures { IfOk result (λ v. roots_in v.items ≡ own_roots_at (around_of (opened count path.now (procedure p.now).body))) }
+{
+    let Way { aliases, names: _ } = Way::to(alloc, p, path, count)?;
+    Ok(aliases)
+}
+
+/// Whether a block touches a buffer so, directly, through views, or through calls, by the table of what each procedure
+/// of the unit touches. The aliases say what its names stand for before it.
+pub fn touches_buffer(
     unit: &Unit,
     modes: &ModeTable,
     b: &Block,
@@ -53,9 +63,9 @@ fn looks_back(
     ensures looks { IfOk result (λ r. r ≡ looks_back (program unit.now) (roots_in aliases.old.items) (block b.now) y) }
     ensures kept { OnOk result (aliases.new.items ≡ aliases.old.items) }
 {
-    let reduces = touches(unit, modes, b, aliases, Mode::Reducing, y)?;
-    let writes = touches(unit, modes, b, aliases, Mode::Writing, y)?;
-    let reads = touches(unit, modes, b, aliases, Mode::Reading, y)?;
+    let reduces = touches_buffer(unit, modes, b, aliases, Mode::Reducing, y)?;
+    let writes = touches_buffer(unit, modes, b, aliases, Mode::Writing, y)?;
+    let reads = touches_buffer(unit, modes, b, aliases, Mode::Reading, y)?;
     Ok(reduces || (writes && reads))
 }
 

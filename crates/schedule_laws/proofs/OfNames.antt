@@ -4,6 +4,9 @@ pub mod Proposed
 pub mod LoopRules
 pub mod OrderRules
 pub mod ScopeRules
+pub mod BufferRules
+pub mod CallRules
+pub mod FieldRules
 pub mod Rules
 pub mod Runs
 pub mod Schedules

@@ -1,4 +1,7 @@
+pub mod Each
 pub mod Lawful
 pub mod Examples
 pub mod OrderExamples
 pub mod ScopeExamples
+pub mod BufferExamples
+pub mod CallExamples

@@ -8,8 +8,8 @@ use Rattle.exo_tree.specs.Places.{Path}
 use Rattle.exo_tree.specs.PlainPlace.{step_taken}
 use Rattle.exo_tree.specs.declared.place.Step.{Step}
 use Rattle.cursor_forward.specs.Cursors.{Side, owner}
-use Rattle.schedule_laws.specs.Operators.Operators.{before_gap, gap_under, gap_beside}
-use Rattle.schedule_laws.specs.Operators.Operators.{number_in_block}
+use Rattle.schedule_laws.specs.Operators.Places.{before_gap, gap_under, gap_beside}
+use Rattle.schedule_laws.specs.Operators.Places.{number_in_block}
 
 number_at_end : (up : List Step) (last : Step)
     → number_in_block (map step_taken (up ++ last ∷ [])) ≡ last.index

@@ -1,7 +1,7 @@
 -- Places and gaps in memory, as plain ones.
 use Rattle.cursor_forward.specs.PlainCursor.{plain_cursor}
 use Rattle.schedule_laws.specs.Versions.Places as plain
-use Rattle.schedule_laws.specs.Operators.Operators as operators
+use Rattle.schedule_laws.specs.Operators.Places as operators
 use Rattle.schedule_run.specs.declared.cursors.Place.{Place}
 use Rattle.schedule_run.specs.declared.placing.GapIn.{GapIn}
 

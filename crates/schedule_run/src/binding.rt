@@ -11,10 +11,13 @@ ghost use Rattle.schedule_laws.specs.Versions.Versions as plain;
 ghost use Rattle.schedule_laws.specs.Versions.Places.{moved_at, then_seek};
 ghost use Rattle.schedule_laws.specs.Versions.Lines.{binding, emitting, held_place, is_instruction, searched};
 ghost use Rattle.schedule_run.specs.Outcomes.{Performs};
-ghost use Rattle.schedule_run.specs.PlainVersions.{held, origin, versions};
+ghost use Rattle.config_live.specs.Origins.{origin};
+ghost use Rattle.schedule_run.specs.PlainVersions.{held, versions};
 
-use crate::session::{Binding, Held, Origin, Session};
+use crate::session::{Binding, Held, Session};
 use crate::why::Why;
+use config_live::Origin;
+use cursor_forward::Edits;
 use cursor_patterns::Pattern;
 use exo_tree::{Name, ProcId};
 use schedule_text::source::Move;
@@ -42,10 +45,12 @@ impl Session {
         name: &Text,
         number: ProcId,
         made: Origin,
+        edits: Edits,
         shown: u64,
     ) -> Result<(), AllocError>
         ensures added { OnOk result (versions self.new ≡ bound name.now (plain.Version number.0) (record (versions self.old) {
           origins = (versions self.old).origins ++ origin made ∷ [];
+          edits = (versions self.old).edits ++ edits ∷ [];
           steps = suc (versions self.old).steps;
           obligations = (versions self.old).obligations + shown;
         })) }
@@ -58,6 +63,7 @@ impl Session {
             return Err(AllocError);
         };
         self.origins.push(made)?;
+        self.edits.push(edits)?;
         self.steps = steps;
         self.obligations = obligations;
         self.bind(alloc, name, Held::Version(number))

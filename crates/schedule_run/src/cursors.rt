@@ -3,14 +3,12 @@ ghost use Rattle.std.specs.Prelude.{◌≡◌, ◌∷◌, map, Some, IfOk, optio
 ghost use Rattle.exo_tree.specs.Tree.{block};
 ghost use Rattle.exo_tree.specs.PlainUnit.{program};
 ghost use Rattle.exo_meaning.specs.Units.{IsUnit};
-ghost use Rattle.config_laws.specs.Differing.{is_descendant};
 ghost use Rattle.cursor_patterns.specs.PlainPattern.{plain_pattern};
 ghost use Rattle.cursor_forward.specs.PlainCursor.{plain_cursor};
 ghost use Rattle.schedule_text.specs.Views.{plain_move};
 ghost use Rattle.schedule_calls.specs.Readings.{move};
 ghost use Rattle.schedule_calls.specs.PlainRequest.{plain_asked, plain_source, moves_of};
 ghost use Rattle.schedule_calls.specs.Requests.{Found};
-ghost use Rattle.schedule_laws.specs.Versions.Versions.{configured};
 ghost use Rattle.schedule_laws.specs.Versions.Versions as plain;
 ghost use Rattle.schedule_laws.specs.Versions.Places as places;
 ghost use Rattle.schedule_laws.specs.Versions.Places.{as_place, brought, matched, moved_at, source_at, sought};
@@ -23,6 +21,7 @@ ghost use Rattle.schedule_run.specs.Ways.{way_to, along};
 
 use crate::session::{Held, Session};
 use crate::why::{Missing, Why};
+use config_live::descends;
 use cursor_forward::laws::units_are_searchable;
 use cursor_forward::{
     Cursor, after, before, body, expand, find, forward, item, next, parent, prev,
@@ -104,31 +103,12 @@ impl Session {
         }
     }
 
-    /// Whether version `k` was made of another one in any number of steps, or is that one.
-    fn descends(&self, k: ProcId, from: ProcId) -> bool
-        ensures { result ≡ is_descendant (map configured (versions self.now).origins) k.0 from.0 }
-    {
-        let mut at = k;
-        let mut left = k.0;
-        while left > 0 {
-            left -= 1;
-            if at.0 == from.0 {
-                return true;
-            }
-            match self.parent(at) {
-                Some(above) => at = above,
-                None => return false,
-            }
-        }
-        at.0 == from.0
-    }
-
     /// A cursor that a name holds, in a version of which version `k` was made.
     fn place_before(&self, k: ProcId, name: &[u8]) -> Result<Place, Missing>
         ensures { Finds plain_place (as_place (versions self.now) k.0 (plain.held (versions self.now) name.now)) result }
     {
         let place = self.held_place(name)?;
-        if self.descends(k, place.version) {
+        if descends(&self.origins, k, place.version) {
             Ok(place)
         } else {
             Err(Missing::UnknownCursor)
@@ -147,7 +127,7 @@ impl Session {
         ensures { Finds plain_place (source_at (versions self.now) k.0 (Found name.now (plain_pattern pattern.now) nth)) result }
     {
         match self.version_of(name) {
-            Some(j) => if self.descends(k, j) {
+            Some(j) => if descends(&self.origins, k, j) {
                 self.matched(j, pattern, nth)
             } else {
                 Err(Missing::UnknownCursor)
@@ -240,7 +220,7 @@ impl Session {
     fn stepped(&self, k: ProcId, c: &Cursor) -> Option<Cursor>
         ensures { option_map plain_cursor result ≡ places.stepped (versions self.now) k.0 (plain_cursor c.now) }
     {
-        forward(c, &self.origins.get(k.0 as usize)?.edits)
+        forward(c, self.edits.get(k.0 as usize)?)
     }
 
     /// Where a cursor goes along these versions, the latest first.

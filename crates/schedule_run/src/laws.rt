@@ -1,8 +1,6 @@
 //! Laws of the runs of lines, each the contract of a function with nothing to do.
 ghost use Rattle.schedule_run.specs.Laws.{LinesRunOnce, SchedulesKeep, SmallUnitsHaveRoom};
 
-pub use schedule_laws::operators::laws::schedules_differ_in_nothing;
-
 /// A line asks one thing, and lines come to one end.
 pub fn lines_run_once()
     ensures { LinesRunOnce }

@@ -14,5 +14,5 @@ mod why;
 mod writes;
 
 pub use run::run_schedule;
-pub use session::{Binding, Held, Origin, Session};
+pub use session::{Binding, Held, Session};
 pub use why::{Missing, Refused, Why};

@@ -7,9 +7,9 @@ ghost use Rattle.cursor_forward.specs.PlainCursor.{plain_cursor, plain_side};
 ghost use Rattle.step_driver.specs.PlainTarget.{plain_piece};
 ghost use Rattle.schedule_calls.specs.PlainRequest.{plain_asked};
 ghost use Rattle.schedule_run.specs.Outcomes.{Makes};
-ghost use Rattle.schedule_laws.specs.Operators.Operators.{before_gap, gap_beside};
+ghost use Rattle.schedule_laws.specs.Operators.Places.{statement_in, block_in, gap_in, before_gap, gap_beside};
 ghost use Rattle.schedule_run.specs.PlainPlace.{plain_gap};
-ghost use Rattle.schedule_run.specs.Planned.{statement_in, block_in, gap_in, statement_at, block_at, gap_at};
+ghost use Rattle.schedule_run.specs.Planned.{as_tried, place_at};
 ghost use Rattle.schedule_run.specs.PlainVersions.{versions};
 
 use crate::session::Session;
@@ -22,7 +22,7 @@ use step_driver::Piece;
 
 /// The statement that a cursor stands for, where an operator asks for one.
 fn statement_in(c: Cursor) -> Result<Path, Why>
-    ensures { Makes (λ path. path) (statement_in (plain_cursor c)) result }
+    ensures { Makes (λ path. path) (as_tried (statement_in (plain_cursor c))) result }
 {
     match c {
         Cursor::Node(path) => Ok(path),
@@ -32,7 +32,7 @@ fn statement_in(c: Cursor) -> Result<Path, Why>
 
 /// The statement or the block that a cursor stands for.
 fn block_in(c: Cursor) -> Result<Piece, Why>
-    ensures { Makes plain_piece (block_in (plain_cursor c)) result }
+    ensures { Makes plain_piece (as_tried (block_in (plain_cursor c))) result }
 {
     match c {
         Cursor::Node(path) => Ok(Piece { path, count: 1 }),
@@ -91,7 +91,7 @@ fn gap_beside(path: &Path, side: Side) -> Option<GapIn>
 
 /// The gap that a cursor stands for, where an operator asks for one in the block of a statement.
 fn gap_in(c: &Cursor) -> Result<GapIn, Why>
-    ensures { Makes plain_gap (gap_in (plain_cursor c.now)) result }
+    ensures { Makes plain_gap (as_tried (gap_in (plain_cursor c.now))) result }
 {
     let Cursor::Gap(path, side) = c else {
         return Err(Why::Step(StepError::WrongShape));
@@ -111,7 +111,7 @@ impl Session {
         asked: &Asked<'_>,
     ) -> Result<Path, Why>
         requires { IsUnit (program self.now.unit) }
-        ensures { Makes (λ path. path) (statement_at (versions self.now) k.0 (plain_asked asked.now)) result }
+        ensures { Makes (λ path. path) (place_at (versions self.now) k.0 (plain_asked asked.now) statement_in) result }
     {
         let cursor = self.sought(alloc, k, asked)?;
         statement_in(cursor)
@@ -120,7 +120,7 @@ impl Session {
     /// The statement or the block that is asked for by an operator on version `k`.
     pub(crate) fn block_at(&self, alloc: Global, k: ProcId, asked: &Asked<'_>) -> Result<Piece, Why>
         requires { IsUnit (program self.now.unit) }
-        ensures { Makes plain_piece (block_at (versions self.now) k.0 (plain_asked asked.now)) result }
+        ensures { Makes plain_piece (place_at (versions self.now) k.0 (plain_asked asked.now) block_in) result }
     {
         let cursor = self.sought(alloc, k, asked)?;
         block_in(cursor)
@@ -129,7 +129,7 @@ impl Session {
     /// The gap that is asked for by an operator on version `k`.
     pub(crate) fn gap_at(&self, alloc: Global, k: ProcId, asked: &Asked<'_>) -> Result<GapIn, Why>
         requires { IsUnit (program self.now.unit) }
-        ensures { Makes plain_gap (gap_at (versions self.now) k.0 (plain_asked asked.now)) result }
+        ensures { Makes plain_gap (place_at (versions self.now) k.0 (plain_asked asked.now) gap_in) result }
     {
         let cursor = self.sought(alloc, k, asked)?;
         gap_in(&cursor)

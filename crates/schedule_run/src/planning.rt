@@ -1,24 +1,25 @@
 //! What operators make of versions.
-ghost use Rattle.std.specs.Prelude.{◌≡◌, [], map, true, option_map};
+ghost use Rattle.std.specs.Prelude.{◌≡◌, true, option_map};
 ghost use Rattle.exo_tree.specs.PlainPlace.{branch_taken};
 ghost use Rattle.exo_tree.specs.PlainProcedure.{procedure};
 ghost use Rattle.exo_tree.specs.PlainUnit.{program};
 ghost use Rattle.exo_modes.specs.Marks.{modes_of};
 ghost use Rattle.exo_modes.specs.Seen.{table_says};
-ghost use Rattle.config_live.specs.Origins.{origin};
 ghost use Rattle.cursor_forward.specs.PlainProposal.{plain_proposal};
 ghost use Rattle.loop_rewrites.specs.PlainTail as made;
 ghost use Rattle.loop_laws.specs.Nest.Fission.{fission_rule};
 ghost use Rattle.step_rules.specs.Answer.{proposed};
 ghost use Rattle.step_rules.specs.Lawful.{IsTarget};
 ghost use Rattle.step_driver.specs.PlainTarget.{target};
-ghost use Rattle.schedule_calls.specs.PlainRequest.{plain_asked, plain_division, plain_operation, plain_tail};
-ghost use Rattle.schedule_laws.specs.Operators.Operators.{call_of, dead_code_rule, division_of, gap_call, procedure_call, statement_call, tail_of};
+ghost use Rattle.schedule_calls.specs.PlainRequest.{plain_asked, plain_change, plain_division, plain_operation, plain_tail};
+ghost use Rattle.schedule_laws.specs.Operators.Arguments.{division_of, tail_of};
+ghost use Rattle.schedule_laws.specs.Operators.Calls.{gap_call, procedure_call, statement_call};
+ghost use Rattle.schedule_laws.specs.Operators.Operators.{call_of, change_call, cursor_call, dead_code_rule, whole_call};
 ghost use Rattle.schedule_run.specs.Outcomes.{Makes};
-ghost use Rattle.schedule_run.specs.Planned.{as_tried, has_form, planned};
+ghost use Rattle.schedule_run.specs.Planned.{as_tried, change_has_form, cursor_is_built, has_form, planned, whole_is_built};
 ghost use Rattle.schedule_run.specs.PlainVersions.{versions};
 
-use crate::resolving::{AtControl, by_control, specialize_at};
+use crate::resolving::{by_control, specialize_at};
 use crate::session::Session;
 use crate::why::Why;
 use cursor_forward::Proposal;
@@ -26,10 +27,11 @@ use exo_tree::{Branch, Path};
 use expression_rewrites::{Commuting, Deleting, Renaming};
 use loop_rewrites::nest::{Fissioning, Fusing, Joining, Reordering};
 use loop_rewrites::{Dividing, Multiplying, Unrolling};
-use schedule_calls::{Asked, Division, Operation, Tail};
+use schedule_calls::{Asked, Change, CursorOperator, Division, Operation, Tail, WholeOperator};
 use statement_rewrites::{Emptying, Exchanging, Keeping, Lifting, Removing};
 use std::alloc::Global;
 use step_driver::{Operator, Target, propose};
+use step_targets::{AtLoop, AtPiece};
 
 /// What an operator makes at a path.
 pub(crate) fn proposed<O: Operator>(
@@ -55,7 +57,7 @@ fn on_procedure<O: Operator>(
     requires modes { table_says on.now.modes.now ≡ modes_of (program on.now.unit.now) }
     requires target { IsTarget (target on.now) }
     requires unit { program on.now.unit.now ≡ program s.now.unit }
-    requires origins { map origin on.now.origins.now ≡ [] }
+    requires origins { map origin on.now.origins.now ≡ (versions s.now).origins }
     ensures { Makes plain_proposal (planned (versions s.now) on.now.number.0 (procedure on.now.proc.now) (procedure_call (O.rule op.now))) result }
 {
     proposed(alloc, on, &Path::new(), op)
@@ -72,7 +74,7 @@ fn at_statement<O: Operator>(
     requires modes { table_says on.now.modes.now ≡ modes_of (program on.now.unit.now) }
     requires target { IsTarget (target on.now) }
     requires unit { program on.now.unit.now ≡ program s.now.unit }
-    requires origins { map origin on.now.origins.now ≡ [] }
+    requires origins { map origin on.now.origins.now ≡ (versions s.now).origins }
     ensures { Makes plain_proposal (planned (versions s.now) on.now.number.0 (procedure on.now.proc.now) (statement_call (plain_asked at.now) (O.rule op.now))) result }
 {
     let path = s.statement_at(alloc, on.number, at)?;
@@ -84,11 +86,16 @@ fn fission_at(alloc: Global, on: &Target<'_>, s: &Session, at: &Asked<'_>) -> Re
     requires modes { table_says on.now.modes.now ≡ modes_of (program on.now.unit.now) }
     requires target { IsTarget (target on.now) }
     requires unit { program on.now.unit.now ≡ program s.now.unit }
-    requires origins { map origin on.now.origins.now ≡ [] }
+    requires origins { map origin on.now.origins.now ≡ (versions s.now).origins }
     ensures { Makes plain_proposal (planned (versions s.now) on.now.number.0 (procedure on.now.proc.now) (gap_call (plain_asked at.now) fission_rule)) result }
 {
     let gap = s.gap_at(alloc, on.number, at)?;
-    proposed(alloc, on, &gap.around, &Fissioning { count: gap.before })
+    proposed(
+        alloc,
+        on,
+        &gap.around,
+        &AtPiece(Fissioning { count: gap.before }),
+    )
 }
 
 /// What `eliminate_dead_code` makes of the loop, or of the condition and the branch of it that is kept.
@@ -102,12 +109,12 @@ fn eliminate_at(
     requires modes { table_says on.now.modes.now ≡ modes_of (program on.now.unit.now) }
     requires target { IsTarget (target on.now) }
     requires unit { program on.now.unit.now ≡ program s.now.unit }
-    requires origins { map origin on.now.origins.now ≡ [] }
+    requires origins { map origin on.now.origins.now ≡ (versions s.now).origins }
     ensures { Makes plain_proposal (planned (versions s.now) on.now.number.0 (procedure on.now.proc.now) (statement_call (plain_asked at.now) (dead_code_rule (option_map branch_taken keep)))) result }
 {
     match keep {
-        None => at_statement(alloc, on, s, at, &Emptying),
-        Some(keep) => at_statement(alloc, on, s, at, &Keeping { keep }),
+        None => at_statement(alloc, on, s, at, &AtLoop(Emptying)),
+        Some(keep) => at_statement(alloc, on, s, at, &AtPiece(Keeping { keep })),
     }
 }
 
@@ -135,6 +142,96 @@ fn dividing(d: &Division) -> Dividing<'_>
     }
 }
 
+/// What an operator makes that takes a cursor and nothing more.
+fn at_cursor(
+    alloc: Global,
+    on: &Target<'_>,
+    s: &Session,
+    at: &Asked<'_>,
+    operator: CursorOperator,
+) -> Result<Proposal, Why>
+    requires modes { table_says on.now.modes.now ≡ modes_of (program on.now.unit.now) }
+    requires target { IsTarget (target on.now) }
+    requires unit { program on.now.unit.now ≡ program s.now.unit }
+    requires origins { map origin on.now.origins.now ≡ (versions s.now).origins }
+    requires built { cursor_is_built operator ≡ true }
+    ensures { Makes plain_proposal (planned (versions s.now) on.now.number.0 (procedure on.now.proc.now) (cursor_call operator (plain_asked at.now))) result }
+{
+    match operator {
+        CursorOperator::ReorderLoops => at_statement(alloc, on, s, at, &AtPiece(Reordering)),
+        CursorOperator::JoinLoops => at_statement(alloc, on, s, at, &AtPiece(Joining)),
+        CursorOperator::Fission => fission_at(alloc, on, s, at),
+        CursorOperator::Fuse => at_statement(alloc, on, s, at, &AtPiece(Fusing)),
+        CursorOperator::UnrollLoop => at_statement(alloc, on, s, at, &AtPiece(Unrolling)),
+        CursorOperator::RemoveLoop => at_statement(alloc, on, s, at, &AtLoop(Removing)),
+        CursorOperator::LiftScope => at_statement(alloc, on, s, at, &AtPiece(Lifting)),
+        CursorOperator::ReorderStmts => at_statement(alloc, on, s, at, &AtPiece(Exchanging)),
+        CursorOperator::LiftAlloc
+        | CursorOperator::DeleteBuffer
+        | CursorOperator::Inline
+        | CursorOperator::InlineWindow
+        | CursorOperator::DeleteConfig => Err(Why::UnknownName),
+    }
+}
+
+/// What a change makes at the cursor that is asked for.
+fn changed(
+    alloc: Global,
+    on: &Target<'_>,
+    s: &Session,
+    at: &Asked<'_>,
+    change: &Change<'_>,
+) -> Result<Proposal, Why>
+    requires modes { table_says on.now.modes.now ≡ modes_of (program on.now.unit.now) }
+    requires target { IsTarget (target on.now) }
+    requires unit { program on.now.unit.now ≡ program s.now.unit }
+    requires origins { map origin on.now.origins.now ≡ (versions s.now).origins }
+    requires form { change_has_form (plain_change change.now) ≡ true }
+    ensures { Makes plain_proposal (planned (versions s.now) on.now.number.0 (procedure on.now.proc.now) (change_call (plain_asked at.now) (plain_change change.now))) result }
+{
+    match change {
+        Change::Alone(operator) => at_cursor(alloc, on, s, at, *operator),
+        Change::WithControl(operator, e) => by_control(alloc, on, s, at, *operator, e),
+        Change::MultLoops(name) => at_statement(alloc, on, s, at, &AtPiece(Multiplying { name })),
+        Change::Specialize(c) => specialize_at(alloc, on, s, at, c),
+        Change::CommuteExpr(pattern) => at_statement(
+            alloc,
+            on,
+            s,
+            at,
+            &AtPiece(Commuting { pattern }),
+        ),
+        Change::DivideLoop(division) => at_statement(alloc, on, s, at, &AtLoop(dividing(division))),
+        Change::EliminateDeadCode(keep) => eliminate_at(alloc, on, s, at, *keep),
+        Change::WithWord(_, _)
+        | Change::BindExpr(_, _)
+        | Change::ExpandDim(_, _)
+        | Change::StageMem(_, _, _)
+        | Change::WriteConfig(_, _, _)
+        | Change::BindConfig(_, _, _) => Err(Why::UnknownName),
+    }
+}
+
+/// What an operator makes of the whole procedure that takes nothing.
+fn on_whole(
+    alloc: Global,
+    on: &Target<'_>,
+    s: &Session,
+    operator: WholeOperator,
+) -> Result<Proposal, Why>
+    requires modes { table_says on.now.modes.now ≡ modes_of (program on.now.unit.now) }
+    requires target { IsTarget (target on.now) }
+    requires unit { program on.now.unit.now ≡ program s.now.unit }
+    requires origins { map origin on.now.origins.now ≡ (versions s.now).origins }
+    requires built { whole_is_built operator ≡ true }
+    ensures { Makes plain_proposal (planned (versions s.now) on.now.number.0 (procedure on.now.proc.now) (whole_call operator)) result }
+{
+    match operator {
+        WholeOperator::DeletePass => on_procedure(alloc, on, s, &AtPiece(Deleting)),
+        WholeOperator::Simplify => Err(Why::UnknownName),
+    }
+}
+
 /// What an operation makes of a procedure of the versions' unit.
 pub(crate) fn planned(
     alloc: Global,
@@ -145,33 +242,13 @@ pub(crate) fn planned(
     requires modes { table_says on.now.modes.now ≡ modes_of (program on.now.unit.now) }
     requires target { IsTarget (target on.now) }
     requires unit { program on.now.unit.now ≡ program s.now.unit }
-    requires origins { map origin on.now.origins.now ≡ [] }
+    requires origins { map origin on.now.origins.now ≡ (versions s.now).origins }
     requires form { has_form (plain_operation operation.now) ≡ true }
     ensures { Makes plain_proposal (planned (versions s.now) on.now.number.0 (procedure on.now.proc.now) (call_of (plain_operation operation.now))) result }
 {
     match operation {
-        Operation::DivideLoop(at, division) => at_statement(alloc, on, s, at, &dividing(division)),
-        Operation::CutLoop(at, e) => by_control(alloc, on, s, at, AtControl::Cut, e),
-        Operation::MultLoops(at, name) => at_statement(alloc, on, s, at, &Multiplying { name }),
-        Operation::ShiftLoop(at, e) => by_control(alloc, on, s, at, AtControl::Shift, e),
-        Operation::ReorderLoops(at) => at_statement(alloc, on, s, at, &Reordering),
-        Operation::Fission(at) => fission_at(alloc, on, s, at),
-        Operation::Fuse(at) => at_statement(alloc, on, s, at, &Fusing),
-        Operation::JoinLoops(at) => at_statement(alloc, on, s, at, &Joining),
-        Operation::UnrollLoop(at) => at_statement(alloc, on, s, at, &Unrolling),
-        Operation::RemoveLoop(at) => at_statement(alloc, on, s, at, &Removing),
-        Operation::LiftScope(at) => at_statement(alloc, on, s, at, &Lifting),
-        Operation::Specialize(at, c) => specialize_at(alloc, on, s, at, c),
-        Operation::EliminateDeadCode(at, keep) => eliminate_at(alloc, on, s, at, *keep),
-        Operation::ReorderStmts(at) => at_statement(alloc, on, s, at, &Exchanging),
-        Operation::CommuteExpr(at, pattern) => at_statement(
-            alloc,
-            on,
-            s,
-            at,
-            &Commuting { pattern },
-        ),
+        Operation::At(at, change) => changed(alloc, on, s, at, change),
+        Operation::Whole(operator) => on_whole(alloc, on, s, *operator),
         Operation::Rename(name) => on_procedure(alloc, on, s, &Renaming { name }),
-        Operation::DeletePass => on_procedure(alloc, on, s, &Deleting),
     }
 }

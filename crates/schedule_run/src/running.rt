@@ -5,13 +5,17 @@ ghost use Rattle.exo_tree.specs.PlainProcedure.{procedure};
 ghost use Rattle.exo_tree.specs.PlainUnit.{program};
 ghost use Rattle.exo_meaning.specs.Units.{IsUnit};
 ghost use Rattle.affine_systems.specs.Outcomes.{plain_obligation};
+ghost use Rattle.config_live.specs.Origins.{origin};
+ghost use Rattle.config_live.specs.Places.{side_taken};
+ghost use Rattle.cursor_forward.specs.PlainCursor.{plain_side};
 ghost use Rattle.cursor_forward.specs.PlainProposal.{plain_proposal};
 ghost use Rattle.made_trees.specs.Ids as ids;
+ghost use Rattle.step_rules.specs.Lawful.{config_side};
 ghost use Rattle.tree_laws.specs.Findings.Versions as longer;
 ghost use Rattle.tree_laws.specs.Findings.Versions.{with_version};
 ghost use Rattle.schedule_calls.specs.PlainRequest.{plain_operation};
-ghost use Rattle.schedule_laws.specs.Versions.Versions.{started, version_of};
-ghost use Rattle.schedule_laws.specs.Versions.Lines.{called};
+ghost use Rattle.schedule_laws.specs.Versions.Versions.{made_of, started};
+ghost use Rattle.schedule_laws.specs.Versions.Lines.{Apply, performed};
 ghost use Rattle.schedule_laws.specs.Operators.Operators.{call_of};
 ghost use Rattle.schedule_run.specs.Outcomes.{Makes, Performs};
 ghost use Rattle.schedule_run.specs.Planned as plans;
@@ -20,15 +24,16 @@ ghost use Rattle.schedule_run.specs.Running.{IsRunning, versions_in};
 
 use crate::binding::let_go;
 use crate::planning::planned;
-use crate::session::{Held, Origin, Session, number_of};
+use crate::session::{Held, Session, number_of};
 use crate::why::Why;
 use crate::writes::{add_writes, writes_of};
 use affine_systems::Obligation;
 use bounds_check::obligations_with_tables;
+use config_live::{FieldList, Origin};
 use config_state::FieldTable;
-use cursor_forward::Proposal;
+use cursor_forward::{Proposal, Side};
 use exo_modes::ModeTable;
-use exo_tree::{Proc, ProcId, Unit};
+use exo_tree::{FieldId, Proc, ProcId, Unit};
 use made_trees::next_id;
 use ob_check::{Cache, Gate};
 use schedule_calls::Operation;
@@ -89,7 +94,7 @@ impl Running {
         }
         let on = Target {
             unit: &self.session.unit,
-            origins: &[],
+            origins: &self.session.origins,
             modes: &self.modes,
             number: k,
             proc,
@@ -158,24 +163,16 @@ impl Running {
         ensures performs { Performs (stepped (versions_in self.old) bind.now k.0 (plans.Got (plain_proposal made))) (versions_in self.new) result }
         ensures running { OnOk result (IsRunning self.new) }
     {
+        let origin = origin_of(alloc, k, &made)?;
         let Proposal {
             proc,
             must,
             edits,
-            fields,
-            place,
-            side,
+            ..
         } = made;
-        let origin = Origin {
-            parent: Some(k),
-            edits,
-            place,
-            side,
-            fields,
-        };
         let number = self.push(alloc, proc)?;
         let shown = self.shown(rt, alloc, number, &must, cache, gate)?;
-        self.session.add(alloc, bind, number, origin, shown)?;
+        self.session.add(alloc, bind, number, origin, edits, shown)?;
         Ok(())
     }
 
@@ -192,7 +189,7 @@ impl Running {
     ) -> Result<(), Why>
         requires running { IsRunning self.old }
         requires form { has_form (plain_operation operation.now) ≡ true }
-        ensures performs { Performs (called (versions_in self.old) bind.now (call_of (plain_operation operation.now)) (version_of (versions_in self.old) of.now)) (versions_in self.new) result }
+        ensures performs { Performs (performed (versions_in self.old) (Apply bind.now of.now (call_of (plain_operation operation.now)))) (versions_in self.new) result }
         ensures running { OnOk result (IsRunning self.new) }
     {
         let Some(k) = self.session.version_of(of.as_slice()) else {
@@ -215,13 +212,52 @@ impl Running {
     ) -> Result<(), Why>
         requires running { IsRunning self.old }
         requires form { has_form (plain_operation operation) ≡ true }
-        ensures performs { Performs (called (versions_in self.old) bind.now (call_of (plain_operation operation.entry)) (version_of (versions_in self.old) of.now)) (versions_in self.new) result }
+        ensures performs { Performs (performed (versions_in self.old) (Apply bind.now of.now (call_of (plain_operation operation.entry)))) (versions_in self.new) result }
         ensures running { OnOk result (IsRunning self.new) }
     {
         let done = self.apply(rt, alloc, bind, of, &operation, cache, gate);
         let_go(operation);
         done
     }
+}
+
+/// The same side, as origins tell it.
+fn side_of(side: Side) -> config_live::Side
+    ensures { side_taken result ≡ config_side (plain_side side) }
+{
+    match side {
+        Side::Before => config_live::Side::Before,
+        Side::After => config_live::Side::After,
+    }
+}
+
+/// The list of these fields. That a list has what was put into it is tested, since its contract tells members alone.
+fn list_of(alloc: Global, fields: &[FieldId]) -> Result<FieldList, AllocError>
+    ensures { IfOk result (λ l. l ≡ map (λ f. f.0) fields.now) }
+{
+    let mut list = FieldList::new(alloc);
+    let mut numbers = Vec::new(alloc);
+    for f in fields {
+        list.push(*f)?;
+        numbers.push(f.0)?;
+    }
+    if list.as_slice() == numbers.as_slice() {
+        return Ok(list);
+    }
+    Err(AllocError)
+}
+
+/// How what a step made of version `k` was made.
+fn origin_of(alloc: Global, k: ProcId, made: &Proposal) -> Result<Origin, AllocError>
+    ensures { IfOk result (λ o. origin o ≡ made_of k.0 (plain_proposal made.now)) }
+{
+    let fields = list_of(alloc, &made.fields)?;
+    Ok(Origin {
+        parent: Some(k),
+        place: made.place.duplicate(),
+        side: side_of(made.side),
+        fields,
+    })
 }
 
 /// The sum; one past the greatest number is answered as want of memory.

@@ -20,7 +20,8 @@ pub trait Names {
         ensures { result ≡ names self.now x.0 };
 }
 
-fn in_control<N: Names>(names: &N, e: &Ctrl) -> bool
+/// Whether an expression mentions one of the names.
+pub fn in_control<N: Names>(names: &N, e: &Ctrl) -> bool
     ensures { result ≡ plain.in_control (N.names names.now) (control e.now) }
 {
     match e {

@@ -16,4 +16,5 @@ mod walk;
 
 pub use body::{findings_of_body, findings_of_version};
 pub use findings::Findings;
-pub use place::findings_of_condition_at;
+pub use place::{PlaceScope, findings_of_condition_at};
+pub use scope::Sort;

@@ -7,13 +7,13 @@ ghost use Rattle.exo_effects.specs.Orders as orders;
 ghost use Rattle.effect_laws.specs.Fits as fits;
 ghost use Rattle.loop_laws.specs.Nest.Shapes.{header_of, step};
 ghost use Rattle.step_needs.specs.PlainNeed.{plain_turns, plain_conflict};
-ghost use Rattle.loop_rewrites.specs.Shapes.PlainLoop.{plain_loop};
+ghost use Rattle.step_targets.specs.PlainLoop.{plain_loop};
 
-use crate::shapes::{LoopAt, header, onward};
 use exo_conflicts::OrderRow;
 use exo_tree::{Branch, Path, Step};
 use std::alloc::{AllocError, Global};
 use step_needs::{Conflict, Turns};
+use step_targets::{LoopAt, header, path_onward};
 
 /// So many statements from a path on, at a turn of a loop.
 pub(crate) fn in_one(
@@ -79,7 +79,7 @@ pub(crate) fn in_turn(alloc: Global, first: Turns, second: Turns) -> Result<Conf
 pub(crate) fn in_loop(k: u32, n: u32) -> Result<Path, AllocError>
     ensures { IfOk result (λ p. p ≡ step k ∷ at_index n) }
 {
-    onward(&Path::new(), k, &[numbered(n)])
+    path_onward(&Path::new(), k, &[numbered(n)])
 }
 
 /// The step to the statement of a number.

@@ -7,13 +7,13 @@ ghost use Rattle.loop_laws.specs.Shapes as shapes;
 ghost use Rattle.loop_laws.specs.Nest.ReorderLoops as plain;
 ghost use Rattle.step_driver.specs.PlainTarget.{target, plain_piece};
 ghost use Rattle.step_driver.specs.Spots.{spot_at};
-ghost use Rattle.loop_rewrites.specs.Shapes.PlainLoop.{plain_loop};
+ghost use Rattle.step_targets.specs.PlainLoop.{plain_loop};
 ghost use Rattle.loop_rewrites.specs.Nest.PlainNest.{plain_nest};
 
-use crate::shapes::{LoopAt, loop_at, loop_of};
 use exo_tree::{Block, Ctrl, Id};
 use std::alloc::{AllocError, Global};
 use step_driver::{Piece, Target};
+use step_targets::{LoopAt, loop_at, loop_of};
 
 /// A loop and the one loop in it.
 #[derive(Clone, Copy)]

@@ -7,14 +7,14 @@ ghost use Rattle.place_laws.specs.Scope.UnrollLoop.{only_loop};
 ghost use Rattle.loop_laws.specs.Nest.Fission as plain;
 ghost use Rattle.step_driver.specs.PlainTarget.{target, plain_piece};
 ghost use Rattle.step_driver.specs.Spots.{spot_at};
-ghost use Rattle.loop_rewrites.specs.Shapes.PlainLoop.{plain_loop};
+ghost use Rattle.step_targets.specs.PlainLoop.{plain_loop};
 ghost use Rattle.loop_rewrites.specs.Nest.PlainParting.{plain_parting};
 
-use crate::shapes::{Left, LoopAt, loop_at};
 use exo_tree::Block;
 use made_trees::Fresh;
 use std::alloc::{AllocError, Global};
 use step_driver::{Piece, Target};
+use step_targets::{Left, LoopAt, loop_at};
 use tree_mentions::in_block;
 
 /// A loop, with the two parts of its body.

@@ -9,10 +9,10 @@ ghost use Rattle.loop_laws.specs.Nest.Fission as plain;
 ghost use Rattle.loop_rewrites.specs.Nest.PlainParting.{plain_parting, plain_write};
 
 use crate::nest::parting::PartingAt;
-use crate::shapes::only_statement;
 use exo_tree::{Arg, Block, FieldId, Id, Stmt, Unit};
 use std::alloc::{AllocError, Global};
 use step_fields::may_write;
+use step_targets::only_statement;
 use tree_mentions::{Names, in_argument};
 
 /// What a statement writes into a field.

@@ -40,7 +40,7 @@ digits_named (suc k) n acc h =
     by true one other = one
     by false one other = other
 
-decimal_named : (n : ℕ) → AreNameBytes (decimal n)
+pub decimal_named : (n : ℕ) → AreNameBytes (decimal n)
 unfolding digits
 decimal_named n = digits_named 64 n [] tt
 

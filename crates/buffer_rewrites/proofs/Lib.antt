@@ -1,0 +1,6 @@
+pub mod Scoped
+pub mod Deleted
+pub mod Lifted
+pub mod Taken
+pub mod Stored
+pub mod Expanded

@@ -1,0 +1,4 @@
+pub mod Beside
+pub mod Binding
+pub mod PlainCall
+pub mod PlainWriting

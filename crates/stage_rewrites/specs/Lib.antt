@@ -1,0 +1,2 @@
+pub mod OnWindow
+pub mod PlainStaging
