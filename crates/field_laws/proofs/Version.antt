@@ -18,7 +18,7 @@ use Rattle.step_rules.specs.Rule.{Target}
 use Rattle.step_rules.specs.Lawful.{Site, IsSite, around, old, IsLawful, IsCarrying}
 use Rattle.step_rules.proofs.Found.{and_true}
 use Rattle.step_rules.proofs.Shapes.{or_pass_next}
-use Rattle.field_laws.specs.FieldRules.{are_fields, moved_to, version_rule, IsPlaced}
+use Rattle.field_laws.specs.FieldRules.{are_fields, moved_to, version_rule}
 use Rattle.field_laws.proofs.Stand.{tried_of, field_rules_are_lawful}
 
 -- ---- fields that differ are the unit's
@@ -115,6 +115,3 @@ version_is_carrying j = record {
       );
   apart = λ a is. refl;
 }
-
-pub version_is_placed : (j : ℕ) → IsPlaced (version_rule j)
-version_is_placed j s there none = absurd (there none)

@@ -1,8 +1,7 @@
 -- Rules on configuration writes as rules of steps: their answers are told in the words of steps,
 -- and fields that the unit has not are of no account.
 use Rattle.std.specs.Prelude.{◌≡◌, ◌<◌, ℕ, zero, nat_lt, Bool, true, if◌then◌else◌, List, [], ◌∷◌}
-use Rattle.std.specs.Prelude.{length}
-use Rattle.std.specs.Prelude.{Option, Some, None, option_map}
+use Rattle.std.specs.Prelude.{length, Option, Some, None, option_map}
 use Rattle.std.specs.List.{list_all}
 use Rattle.exo_tree.specs.Tree.{Argument}
 use Rattle.exo_tree.specs.Context.{fill}
@@ -108,11 +107,6 @@ abbrev pub FieldsAreThere : Type 0
 FieldsAreThere =
     (rule : Target → FieldRule) (s : Spot)
     → Each (λ f. f < length s.target.unit.fields) ((of_field_rule rule).fields s)
-
--- where a piece stands at a statement, the point from which a field may differ is one
-abbrev pub IsPlaced : Rule → Type 0
-IsPlaced r =
-    (s : Spot) → (s.piece.path ≡ [] → ⊥) → (r.point s).0 ≡ [] → r.fields s ≡ []
 
 -- where a draft has no binders its body is the old one with the draft in it
 abbrev pub BodyIsExact : Type 0

@@ -6,7 +6,7 @@ ghost use Rattle.exo_tree.specs.Tree.{Argument};
 ghost use Rattle.config_laws.specs.FieldRule.{Side};
 ghost use Rattle.step_rules.specs.Lawful.{IsLawful, IsCarrying};
 ghost use Rattle.field_laws.specs.FieldRules.{BodyIsExact, FieldDraftsStand, FieldRulesAreLawful};
-ghost use Rattle.field_laws.specs.FieldRules.{FieldsAreThere, IsPlaced};
+ghost use Rattle.field_laws.specs.FieldRules.{FieldsAreThere};
 ghost use Rattle.field_laws.specs.FieldRules.{write_rule, delete_rule, bind_rule, version_rule};
 
 // ---- any rule
@@ -71,26 +71,4 @@ pub fn versions_are_lawful()
 /// The call stays.
 pub fn versions_carry()
     ensures { (j : ℕ) → IsCarrying (version_rule j) }
-{}
-
-// ---- points
-
-/// The point behind a made write is a statement.
-pub fn writes_are_placed()
-    ensures { (side : Side) (f : ℕ) (e : Argument) → IsPlaced (write_rule side f e) }
-{}
-
-/// So is the point where a write was.
-pub fn deletions_are_placed()
-    ensures { IsPlaced delete_rule }
-{}
-
-/// So is the point behind a write before a call.
-pub fn bindings_are_placed()
-    ensures { (name : List ℕ) (f : ℕ) → IsPlaced (bind_rule name f) }
-{}
-
-/// So is the point behind a call.
-pub fn versions_are_placed()
-    ensures { (j : ℕ) → IsPlaced (version_rule j) }
 {}
