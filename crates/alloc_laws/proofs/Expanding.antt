@@ -150,7 +150,7 @@ pub record IsPiece (s : Spot) : Type 0 where
   pub behind : rest_of (around s) ≡ end
   pub size : length (statements (old s)) ≡ s.piece.count
 
-opened_size : (n : ℕ) (path : Path) (body : Block) (o : Opened) → opened n path body ≡ Some o
+pub opened_size : (n : ℕ) (path : Path) (body : Block) (o : Opened) → opened n path body ≡ Some o
     → length (statements o.piece) ≡ n
 opened_size n path body o h =
     let s = same_place n n path body o (omega arith) h in

@@ -8,3 +8,4 @@ pub mod Expanding
 pub mod ExpandCarrying
 pub mod Examples
 pub mod OfBind
+pub mod OfStage

@@ -3,3 +3,4 @@ pub mod Lifting
 pub mod Outside
 pub mod Expanding
 pub mod Bind
+pub mod Stage

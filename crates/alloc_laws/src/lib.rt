@@ -1,5 +1,7 @@
-//! The rules of steps on single allocations and of binding an expression, and that each is lawful.
+//! The rules of steps on single allocations, of binding an expression and of staging a block, and
+//! that each is lawful.
 #![tactic(auto)]
 
 pub mod bind;
 pub mod laws;
+pub mod stage;

@@ -19,16 +19,17 @@ use Rattle.affine_systems.specs.declared.obligation.Obligation.{Obligation}
 use Rattle.check_claims.specs.Claim.{Claim, Is, Apart, Placed}
 use Rattle.check_facts.specs.Contexts.{context_of, context_fits, facts_of}
 use Rattle.bounds_check.specs.Errors.{error_of}
-use Rattle.exo_conflicts.specs.Outcomes.{Conflicting}
+use Rattle.exo_conflicts.specs.Outcomes.{IsListed}
 use Rattle.exo_conflicts.specs.declared.standing.Standing.{Standing}
-use Rattle.exo_effects.specs.Accesses.{Access, access_of, use_fits}
+use Rattle.exo_effects.specs.Accesses.{Access, access_of}
 use Rattle.exo_effects.specs.Conflicts as conflict
-use Rattle.exo_effects.specs.Conflicts.{Listing, Lists, clashing, past_these, pair_fault, owed_behind, conflicts_of}
+use Rattle.exo_effects.specs.Conflicts.{Listing, Lists, Refuses, clashing, past_these, pair_fault, owed_behind, conflicts_of}
+use Rattle.exo_effects.specs.Limits as limits
 use Rattle.exo_effects.specs.Orders.{Order, no_order}
 use Rattle.exo_effects.specs.Uses.{Use, argument_at}
 use Rattle.bounds_check.specs.Obligations.{Fault, Wide, ManyCases, LargeSystem, ManyObligations, formula_at}
 use Rattle.bounds_check.specs.Obligations.{argument_accesses, owed_for, owed_for_all, said_fits, claim_fits}
-use Rattle.bounds_check.specs.Obligations.{stated_fault, listing_fault, unless_refused, said_fault, claim_fault}
+use Rattle.bounds_check.specs.Obligations.{stated_fault, conflict_fault, listing_fault, unless_refused, said_fault, claim_fault}
 use Rattle.bounds_check.specs.Obligations.{first_fault}
 use Rattle.bounds_check.specs.Outcomes.{IsRefusal, Owes}
 use Rattle.bounds_check.specs.Sites.{unit_at, proc_at, IsTold}
@@ -52,15 +53,16 @@ systems_owed context claim os what place = go (nat_le (length (failing_cases con
     go false small h = absurd h
 
 -- the pairs that are owed for, where none of them is refused
-lists_are : (ctx : List Formula) (order : Order) (place : Path) (base : ℕ) (os : List Owed)
-    (ps : List (Access × Access)) (ws : List Owed)
-    → owed_behind ctx order place base os ps ≡ Lists ws
+lists_are : (fits : Bool) (ctx : List Formula) (order : Order) (place : Path) (base : ℕ)
+    (os : List Owed) (ps : List (Access × Access)) (ws : List Owed)
+    → owed_behind fits ctx order place base os ps ≡ Lists ws
     → ws ≡ os ++ flat_map (conflict.owed_for ctx order place base) ps
-lists_are ctx order place base os [] ws h =
+lists_are fits ctx order place base os [] ws h =
     let same : os ≡ ws = cc in
     sym same ∙ sym (append-nil os)
-lists_are ctx order place base os (q ∷ ps) ws h =
-    by (pair_fault ctx order place base q) (are_within (os ++ here)) h (lists_are ctx order place base (os ++ here) ps ws)
+lists_are fits ctx order place base os (q ∷ ps) ws h =
+    by (pair_fault fits ctx order place base q) (are_within (os ++ here)) h
+    (lists_are fits ctx order place base (os ++ here) ps ws)
   where
     here : List Owed
     here = conflict.owed_for ctx order place base q
@@ -69,10 +71,10 @@ lists_are ctx order place base os (q ∷ ps) ws h =
     others = flat_map (conflict.owed_for ctx order place base) ps
 
     rest : Listing
-    rest = owed_behind ctx order place base (os ++ here) ps
+    rest = owed_behind fits ctx order place base (os ++ here) ps
 
     by : (f : Option conflict.Fault) (within : Bool)
-        → conflict.unless_refused ctx order place base f within rest ≡ Lists ws
+        → limits.unless_refused Refuses conflict.ManySystems f within rest ≡ Lists ws
         → (rest ≡ Lists ws → ws ≡ (os ++ here) ++ others) → ws ≡ os ++ (here ++ others)
     by (Some f) within e k = cc
     by None true e k = k e ∙ append_assoc os here others
@@ -185,7 +187,7 @@ module _ (s : Standing) (says : Condition) (text : List ℕ) (fields : List Conf
   pub form_refused : (old : List Owed) (e : FormError) → IsWide e (fits_read says fields roots facts)
       → IsRefusal (error_of e) (first_fault (unit_at s) (proc_at s) old (here ∷ []))
   form_refused old e h =
-      refused_form (unit_at s) (proc_at s) s.path.now says text old e (fits_read says fields roots facts) h s.fits fits_there
+      refused_form (unit_at s) (proc_at s) s.path.now says text old e (fits_read says fields roots facts) h t.fits_is fits_there
 
   module _ (f : Formula) (made : (fits_read says fields roots facts ≡ true) × (f ≡ formula_read says fields roots facts)) where
     same_told : stated context f ≡ told (unit_at s) (proc_at s) s.path.now says text
@@ -195,7 +197,7 @@ module _ (s : Standing) (says : Condition) (text : List ℕ) (fields : List Conf
         ∙ same_formula (unit_at s) (proc_at s) s.path.now says text fields roots facts t.fields_are t.roots_are t.facts_are) i)
 
     fits : claim_fits (unit_at s) (proc_at s) here ≡ true
-    fits = fits_where (unit_at s) (proc_at s) s.path.now (Is says text) true s.fits (sym fits_there ∙ made.0)
+    fits = fits_where (unit_at s) (proc_at s) s.path.now (Is says text) true t.fits_is (sym fits_there ∙ made.0)
 
     pub systems_refused : (old : List Owed) (e : FormError) → stating.IsRefusal e (stated context f)
         → IsRefusal (error_of e) (first_fault (unit_at s) (proc_at s) old (here ∷ []))
@@ -216,46 +218,44 @@ module _ (u : Program) (p : Procedure) (place : Path) (j k : ℕ) (h : context_f
   abbrev apart : Claim
   apart = Apart j k
 
-  abbrev pub pair_fits : Bool
-  pair_fits = said_fits u p place (Apart j k)
-
   abbrev pub pair_listing : Listing
   pair_listing =
-      conflicts_of (context_of u p place) no_order place (argument_accesses u p place j) (argument_accesses u p place k)
+      conflicts_of (context_fits u p place) (context_of u p place) no_order place
+      (argument_accesses u p place j) (argument_accesses u p place k)
 
   -- what is answered of uses that are these
   pub answered : {A : Type 0} (r : Result (Vec Obligation A) FormError) (us vs : List Use)
       → us ≡ argument_at u p place j → vs ≡ argument_at u p place k
-      → Conflicting r (list_all use_fits us && list_all use_fits vs)
-      (conflicts_of (context_of u p place) no_order place (map access_of us) (map access_of vs))
-      → Conflicting r pair_fits pair_listing
+      → IsListed r (conflicts_of (context_fits u p place) (context_of u p place) no_order place
+      (map access_of us) (map access_of vs))
+      → IsListed r pair_listing
   answered r us vs e f =
-      subst (λ (q : List Use × List Use). Conflicting r (list_all use_fits q.0 && list_all use_fits q.1)
-      (conflicts_of (context_of u p place) no_order place (map access_of q.0) (map access_of q.1))) (λ i. (e i, f i))
+      subst (λ (q : List Use × List Use). IsListed r (conflicts_of (context_fits u p place)
+      (context_of u p place) no_order place (map access_of q.0) (map access_of q.1))) (λ i. (e i, f i))
+
+  refused_for : (old : List Owed) (why : conflict.Fault) → pair_listing ≡ Refuses why
+      → first_fault u p old (it u p place apart ∷ []) ≡ Some (conflict_fault why)
+  refused_for old why w =
+      faulty u p place apart old (conflict_fault why)
+      (fit u p place apart (Some (conflict_fault why)) (fits_where u p place apart true h refl) (ap listing_fault w))
 
   -- the list is refused
-  pub refused_pair : (old : List Owed) (e : FormError) → Conflicting {A = Unit {0}} (Err e) pair_fits pair_listing
+  pub refused_pair : (old : List Owed) (e : FormError) → IsListed {A = Unit {0}} (Err e) pair_listing
       → IsRefusal (error_of e) (first_fault u p old (it u p place apart ∷ []))
-  refused_pair old form.TooManyCases w =
-      faulty u p place apart old ManyCases
-      (fit u p place apart (Some ManyCases) (fits_where u p place apart true h w.0) (ap listing_fault w.1))
-  refused_pair old form.SystemTooLarge w =
-      faulty u p place apart old LargeSystem
-      (fit u p place apart (Some LargeSystem) (fits_where u p place apart true h w.0) (ap listing_fault w.1))
-  refused_pair old form.WideNumber w =
-      faulty u p place apart old Wide (unfit u p place apart (fits_where u p place apart false h w))
-  refused_pair old form.TooManySystems w =
-      faulty u p place apart old ManyObligations
-      (fit u p place apart (Some ManyObligations) (fits_where u p place apart true h w.0) (ap listing_fault w.1))
+  refused_pair old form.TooManyCases w = refused_for old conflict.ManyCases w
+  refused_pair old form.SystemTooLarge w = refused_for old conflict.LargeSystem w
+  refused_pair old form.WideNumber w = refused_for old conflict.WideForm w
+  refused_pair old form.TooManySystems w = refused_for old conflict.ManySystems w
   refused_pair old form.Memory w = tt
 
   -- or it is what they owe
-  pub pair_owes : {A : Type 0} (os : Vec Obligation A) → Conflicting (Ok os) pair_fits pair_listing
+  pub pair_owes : {A : Type 0} (os : Vec Obligation A) → IsListed (Ok os) pair_listing
       → (claim_fault u p (it u p place apart) ≡ None) × (map plain_obligation os.items ≡ owed_for u p (it u p place apart))
   pair_owes os w =
       let ctx = context_of u p place in
       let xs = argument_accesses u p place j in
       let ys = argument_accesses u p place k in (
-        fit u p place apart None (fits_where u p place apart true h w.0) (ap listing_fault w.1),
-        lists_are ctx no_order place (past_these ctx no_order xs ys) [] (clashing xs ys) (map plain_obligation os.items) w.1,
+        fit u p place apart None (fits_where u p place apart true h refl) (ap listing_fault w),
+        lists_are (context_fits u p place) ctx no_order place (past_these ctx no_order xs ys) [] (clashing xs ys)
+            (map plain_obligation os.items) w,
       )

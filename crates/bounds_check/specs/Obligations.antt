@@ -2,7 +2,6 @@
 -- the claim does not. The claim holds where none of its systems has an integer point.
 use Rattle.std.specs.Prelude.{ℕ, Bool, true, false, ◌&&◌, if◌then◌else◌, List, [], ◌∷◌, ◌++◌, map}
 use Rattle.std.specs.Prelude.{flat_map, Option, Some, None}
-use Rattle.std.specs.List.{list_all}
 use Rattle.exo_tree.specs.Tree.{Condition, Procedure, Program}
 use Rattle.exo_tree.specs.Places.{Path, opened}
 use Rattle.meaning_laws.specs.KnownFields.{KnownFields}
@@ -14,9 +13,10 @@ use Rattle.check_claims.specs.Claim.{Claim, Is, Apart, Placed}
 use Rattle.check_claims.specs.Claims.{claims_of}
 use Rattle.check_facts.specs.Contexts.{condition_formula, condition_fits, context_of, context_fits, known_at_place}
 use Rattle.exo_effects.specs.Uses.{argument_at}
-use Rattle.exo_effects.specs.Accesses.{Access, access_of, use_fits}
+use Rattle.exo_effects.specs.Accesses.{Access, access_of}
 use Rattle.exo_effects.specs.Orders.{no_order}
 use Rattle.exo_effects.specs.Conflicts as conflict
+use Rattle.exo_effects.specs.Limits as limits
 use Rattle.exo_effects.specs.Conflicts.{clashing, past_these, conflicts_of}
 use Rattle.bounds_check.specs.Limits.{are_within}
 
@@ -66,11 +66,11 @@ module _ (u : Program) (p : Procedure) where
 
   -- ---- refusals
 
-  -- the normal forms of what is claimed can be written down
+  -- the normal forms of what is claimed can be written down; those of two arguments are made with
+  -- each pair of accesses
   abbrev pub said_fits : Path → Claim → Bool
   said_fits place (Is c text) = condition_fits u p (known_for place) c
-  said_fits place (Apart j k) =
-      list_all use_fits (argument_at u p place j) && list_all use_fits (argument_at u p place k)
+  said_fits place (Apart j k) = true
 
   -- and so can those of its context
   abbrev pub claim_fits : Placed → Bool
@@ -86,6 +86,7 @@ stated_fault SizePassed = Some LargeSystem
 stated_fault (Listed ss) = None
 
 abbrev pub conflict_fault : conflict.Fault → Fault
+conflict_fault conflict.WideForm = Wide
 conflict_fault conflict.ManyCases = ManyCases
 conflict_fault conflict.LargeSystem = LargeSystem
 conflict_fault conflict.ManySystems = ManyObligations
@@ -96,16 +97,14 @@ listing_fault (conflict.Refuses f) = Some (conflict_fault f)
 
 -- whether a list goes on after a claim without a fault
 abbrev pub unless_refused : Option Fault → Bool → Option Fault → Option Fault
-unless_refused (Some f) within rest = Some f
-unless_refused None true rest = rest
-unless_refused None false rest = Some ManyObligations
+unless_refused fault within rest = limits.unless_refused Some ManyObligations fault within rest
 
 module _ (u : Program) (p : Procedure) where
   -- first of its cases, then of the size of its systems
   abbrev pub said_fault : Path → Claim → Option Fault
   said_fault place (Is c text) = stated_fault (stated (context_of u p place) (formula_at u p place c))
   said_fault place (Apart j k) =
-      listing_fault (conflicts_of (context_of u p place) no_order place
+      listing_fault (conflicts_of (context_fits u p place) (context_of u p place) no_order place
       (argument_accesses u p place j) (argument_accesses u p place k))
 
   -- of one claim: first of its forms

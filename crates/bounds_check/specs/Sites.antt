@@ -13,7 +13,7 @@ use Rattle.affine_places.specs.Roots.{Roots, roots_of}
 use Rattle.affine_places.specs.Seen.{roots_in}
 use Rattle.affine_systems.specs.Outcomes.{Owed}
 use Rattle.check_claims.specs.Claim.{Claim}
-use Rattle.check_facts.specs.Contexts.{may_be_walked, context_of, facts_of}
+use Rattle.check_facts.specs.Contexts.{may_be_walked, context_of, context_fits, facts_of}
 use Rattle.exo_conflicts.specs.declared.standing.Standing.{Standing}
 use Rattle.bounds_check.specs.Outcomes.{Owes}
 use Rattle.bounds_check.specs.declared.claims.Site.{Site}
@@ -49,6 +49,7 @@ module _ (s : Standing) where
     pub roots_are : roots ≡ roots_of proc_at
     pub facts_are : facts ≡ facts_of unit_at proc_at s.path.now
     pub context_is : context ≡ context_of unit_at proc_at s.path.now
+    pub fits_is : context_fits unit_at proc_at s.path.now ≡ true
 
   -- what one claim of the place owes comes behind the others
   abbrev pub OwesThere :

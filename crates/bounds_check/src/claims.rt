@@ -8,7 +8,7 @@ ghost use Rattle.affine_forms.specs.Formulas.{condition_keeps_rules};
 ghost use Rattle.affine_places.specs.Seen.{roots_in};
 ghost use Rattle.check_claims.specs.Claim as plain;
 ghost use Rattle.check_claims.specs.PlainClaim.{claim, placed};
-ghost use Rattle.check_facts.specs.Contexts.{IsPlaceOf};
+ghost use Rattle.check_facts.specs.Contexts.{IsPlaceOf, context_fits};
 ghost use Rattle.bounds_check.specs.Laws.{claim_keeps_rules};
 ghost use Rattle.bounds_check.specs.Paths.{same_path};
 ghost use Rattle.bounds_check.specs.Outcomes.{Owes};
@@ -65,7 +65,9 @@ fn put_pair(
     k: u32,
     out: &mut OwedList,
 ) -> Result<(), CheckError>
-    requires { IsFormed (unit_at standing.now) (proc_at standing.now) }
+    requires formed { IsFormed (unit_at standing.now) (proc_at standing.now) }
+    requires fits { context_fits (unit_at standing.now) (proc_at standing.now) standing.now.path.now
+        ≡ true }
     ensures { OwesThere standing.now result (plain.Apart j k) out.old out.new }
 {
     contexts_are_low();

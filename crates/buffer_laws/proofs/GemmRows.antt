@@ -1,6 +1,7 @@
 -- What the steps on buffers make of gemm(M, N, K, A: i32[M, K], B: i32[K, N], C: i32[M, N]), and of
 -- half(x: i32[8]), with the simplifier of made indices.
 use Rattle.std.proofs.Common.{◌≡◌, ℕ, pos, true, List, [], ◌∷◌, refl}
+use Rattle.std.specs.Fmt.{digits}
 use Rattle.exo_tree.specs.Tree.{I32, Control, Lit, Var, Add, Mul, Coord, At, Span, Datum}
 use Rattle.exo_tree.specs.Tree.{Const, Read, Times, Reduce, Assign, For, Alloc, Block, end, next}
 use Rattle.exo_tree.specs.Tree.{Statement}
@@ -30,6 +31,7 @@ half_text : staged_block made_simpler (staging_of 0 (Span (Lit (pos 0)) (Lit (po
     (next (Assign 2 (Mul (Lit (pos 2)) (Var 1) ∷ []) (Const (pos 7))) end))
     (next (For (named 4 (105 ∷ 48 ∷ [])) (Lit (pos 0)) (Lit (pos 8))
     (next (Assign 0 (Var 4 ∷ []) (Read 2 (Var 4 ∷ []))) end)) end)))
+unfolding digits
 half_text = refl
 
 -- ---- gemm: M to K are 0 to 2, A to C are 3 to 5; the loops i, jo, k and ji are 6 to 9
@@ -80,6 +82,7 @@ gemm_text : staged_block made_simpler (staging_of 5 row (99 ∷ [])) I32 0 10 tr
     (next (For (named 8 (105 ∷ 8 ∷ [])) (Lit (pos 0)) (Var 2) (loop 9 (Lit (pos 8))
     (next (Reduce 10 (Var 9 ∷ []) (Times of_a of_b)) end)))
     (each_of_eight 12 (Assign 5 (at_column 12) (Read 10 (Var 12 ∷ []))) end)))
+unfolding digits
 gemm_text = refl
 
 -- with accum: 0 before, and a sum behind
@@ -89,6 +92,7 @@ gemm_sums_text : staged_block made_simpler (sums_of 5 row (99 ∷ [])) I32 0 10 
     (next (For (named 8 (105 ∷ 8 ∷ [])) (Lit (pos 0)) (Var 2) (loop 9 (Lit (pos 8))
     (next (Reduce 10 (Var 9 ∷ []) (Times of_a of_b)) end)))
     (each_of_eight 12 (Reduce 5 (at_column 12) (Read 10 (Var 12 ∷ []))) end)))
+unfolding digits
 gemm_sums_text = refl
 
 -- ---- b : i32; b = B[k, 8 * jo + ji]; c[ji] += A[i, k] * b

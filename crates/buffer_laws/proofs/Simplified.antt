@@ -10,11 +10,11 @@ use Rattle.exo_meaning.specs.Value.{on_one, on_two, on_four, relu, selected}
 use Rattle.exo_meaning.specs.Scene.{Scene, Seen, Side, Point, Range, number, numbers, then_do}
 use Rattle.exo_meaning.specs.Scene.{where_true, is_below, cell_at, narrowed, window}
 use Rattle.exo_meaning.specs.State.{State, place, held, value, put, on_scene, with_view}
-use Rattle.exo_meaning.specs.State.{with_control}
+use Rattle.exo_meaning.specs.State.{with_control, with_field}
 use Rattle.exo_meaning.specs.Calls.{given_all_apart}
 use Rattle.exo_meaning.specs.Calls.{given, all_given, GivenView, Callee, entered, returned}
-use Rattle.exo_meaning.specs.Calls.{run_asserted}
-use Rattle.exo_meaning.specs.Run.{World, step, call_to}
+use Rattle.exo_meaning.specs.Calls.{run_asserted, suits}
+use Rattle.exo_meaning.specs.Run.{World, step, call_to, argument_number}
 use Rattle.meaning_laws.specs.Substitute.{is_plain}
 use Rattle.inplace_laws.specs.Along.{SameAlong, both_end, both_next, SameThere, at_once}
 use Rattle.inplace_laws.specs.Along.{in_branches, in_turns}
@@ -103,6 +103,13 @@ module _ (simple : Control → Control) (names : ℕ → Bool) (is : IsSimplifie
     given_same (Whole y) = refl
     given_same (Window y cs) = ap (option_map GivenView) (window_same y cs)
 
+    number_given_same : (g : Argument)
+        → argument_number scene g ≡ argument_number scene (simplified_argument simple names g)
+    number_given_same (ControlArg e) = refl
+    number_given_same (ConditionArg c) = refl
+    number_given_same (Whole y) = refl
+    number_given_same (Window y cs) = refl
+
     all_given_same : (gs : List Argument)
         → all_given scene gs ≡ all_given scene (simplified_arguments simple names gs)
     all_given_same [] = refl
@@ -157,7 +164,8 @@ module _ (simple : Control → Control) (names : ℕ → Bool) (is : IsSimplifie
           (λ v. put s (λ old. v) p))) (place_same s.scene y es) (value_same s d))
       there (Reduce y es d) s = at_once (ap₂ (λ o q. then_do o (λ p. then_do q
           (λ v. put s (λ old. on_two ◌+ℤ◌ old v) p))) (place_same s.scene y es) (value_same s d))
-      there (Config f g) s = at_once refl
+      there (Config f g) s = at_once (ap (λ o. then_do o (λ n. where_true (suits (world.kinds f) n)
+          (Some (on_scene (with_field f n) s)))) (number_given_same s.scene g))
       there Pass s = at_once refl
       there (If c b d) s = in_branches refl (λ e. along b s) (λ e. along d s)
       there (For i lo hi b) s = in_turns refl refl (λ n u come.

@@ -3,6 +3,7 @@
 use Rattle.std.proofs.Common.{◌≡◌, ◌==◌, ◌||◌, ℤ, pos, Bool, true, false, true≢false, cond, List}
 use Rattle.std.proofs.Common.{[], ◌∷◌, Option, Some, None, option_map, refl, sym, subst, eqb-true}
 use Rattle.std.specs.Int.{int_wrap}
+use Rattle.std.specs.Fmt.{digits}
 use Rattle.exo_tree.specs.Tree.{Binder, I32, Lit, Var, Add, Sub, Coord, Span, TensorParam}
 use Rattle.exo_tree.specs.Tree.{Const, Read, Assign, Reduce, For, Alloc, Block, end, next, Procedure}
 use Rattle.exo_tree.specs.Context.{Here}
@@ -91,6 +92,7 @@ text : with_sums ≡ next (Alloc t I32 (Sub (Lit (pos 6)) (Lit (pos 2)) ∷ []) 
     (next (Reduce 2 (Sub (Add (Var 1) (Lit (pos 3))) (Lit (pos 2)) ∷ []) (Const (pos 7))) end))
     (next (For (named 4 (105 ∷ 48 ∷ [])) (Lit (pos 0)) (Sub (Lit (pos 6)) (Lit (pos 2)))
     (next (Reduce 0 (Add (Lit (pos 2)) (Var 4) ∷ []) (Read 2 (Var 4 ∷ []))) end)) end)))
+unfolding digits
 text = refl
 
 runs_alike : (s : State) → run world made s ≡ run world with_sums s

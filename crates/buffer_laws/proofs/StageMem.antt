@@ -1,5 +1,6 @@
 -- half(x: i32[8]) sets each even cell to 7: what is made of its loop on x[0:8], and what is asked.
 use Rattle.std.proofs.Common.{◌≡◌, ℕ, zero, pos, Bool, true, false, List, [], ◌∷◌, None, refl}
+use Rattle.std.specs.Fmt.{digits}
 use Rattle.exo_tree.specs.Tree.{Binder, I32, Control, Lit, Var, Add, Sub, Mul}
 use Rattle.exo_tree.specs.Tree.{Lt, Le, Span, Const, Read, Assign, For, Alloc}
 use Rattle.exo_tree.specs.Tree.{View, Block, end, next}
@@ -42,6 +43,7 @@ joined_text : staged_block simple (on_all false) I32 0 2 true sevens
     (next (For (named 1 (105 ∷ [])) (Lit (pos 0)) (Lit (pos 4))
     (next (Assign 2 (Mul (Lit (pos 2)) (Var 1) ∷ []) (Const (pos 7))) end))
     (each_of_eight 4 (next (Assign 0 (Var 4 ∷ []) (Read 2 (Var 4 ∷ []))) end))))
+unfolding digits
 joined_text = refl
 
 -- 0 <= 2 * i and 2 * i < 8, in the loop

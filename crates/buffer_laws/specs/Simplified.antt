@@ -64,7 +64,7 @@ module _ (simple : Control → Control) (names : ℕ → Bool) where
     pub simplified_statement : Statement → Statement
     simplified_statement (Assign y is d) = Assign y (indices_of y is) (simplified_datum d)
     simplified_statement (Reduce y is d) = Reduce y (indices_of y is) (simplified_datum d)
-    simplified_statement (Config f g) = Config f g
+    simplified_statement (Config f g) = Config f (simplified_argument g)
     simplified_statement Pass = Pass
     simplified_statement (If c b d) = If c (simplified b) (simplified d)
     simplified_statement (For i lo hi b) = For i lo hi (simplified b)

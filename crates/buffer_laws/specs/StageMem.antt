@@ -1,6 +1,6 @@
 -- A block on a buffer of its own for a window: what is made, what is asked, and when it is refused.
 use Rattle.std.specs.Prelude.{◌==◌, ◌+◌, ◌&&◌, not, cond, ℕ, zero, suc, pos, Bool, true}
-use Rattle.std.specs.Prelude.{false, List, [], ◌∷◌, ◌++◌, length}
+use Rattle.std.specs.Prelude.{false, List, [], ◌∷◌, ◌++◌, length, codes, decimal}
 use Rattle.exo_tree.specs.Tree.{Cell, Control, Lit, Condition, Lt, Le, Eq, Coord, At}
 use Rattle.exo_tree.specs.Tree.{Span, Datum, Const, Read, Negated, Relu, Plus, Minus, Times, Select}
 use Rattle.exo_tree.specs.Tree.{Argument, ControlArg, ConditionArg, Whole, Window, Statement}
@@ -29,9 +29,9 @@ pub record Staging : Type 0 where
 
 -- ---- what is made
 
--- `i0`, `i1` and so on; a window has at most eight spans
+-- `i0`, `i1` and so on
 abbrev pub loop_name : ℕ → List ℕ
-loop_name k = 105 ∷ (48 + k) ∷ []
+loop_name k = codes "i" ++ decimal k
 
 -- a loop per extent, with ids from this one on
 abbrev pub loops_over : ℕ → ℕ → List Control → List Loop

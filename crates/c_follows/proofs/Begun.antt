@@ -53,6 +53,9 @@ all_extents (d ∷ ds) = ap (λ es. d ∷ es) (all_extents ds)
 plus_zero : (z : ℤ) → z +ℤ pos 0 ≡ z
 plus_zero z = omega (arith, ints)
 
+up_to : (a b c : ℤ) → a ≤ℤ b → b ≤ℤ c → a ≤ℤ c
+up_to a b c h k = omega (arith, ints, h, k)
+
 pub at_first : (p : Pointer) (k : ℤ) → k ≡ pos 0 → moved p k ≡ p
 at_first p k e = ap (λ z. record { object = p.object; offset = z }) (ap (λ z. p.offset +ℤ z) e ∙ plus_zero p.offset)
 
@@ -73,12 +76,12 @@ module _ (layout : Layout) (s : State) (m : Machine) where
         there = h.there;
         below = h.below;
         same_cell = h.same_cell;
-        few = subst (λ z. z ≤ℤ pos (2 ^ 48)) (sym h.size) (few x (tensor cell ds) e);
+        few = h.few;
         above = subst (λ z. pos 0 ≤ℤ z) (sym h.begins) (omega (arith, ints));
         positive = above;
         ranks = row_ranks ds;
         strides = rows_small ds above (few x (tensor cell ds) e);
-        inside = λ at r. subst (λ z. ((z +ℤ dot at (row_major ds)) +ℤ pos 1) ≤ℤ h.object.size) (sym h.begins) (row_inside at ds h.object.size (sym h.size) r);
+        inside = λ at r. subst (λ z. ((z +ℤ dot at (row_major ds)) +ℤ pos 1) ≤ℤ h.object.size) (sym h.begins) (up_to _ (product ds) h.object.size (row_inside at ds (product ds) refl r) h.room);
       };
       contents = λ at r. ap (λ z. m.contents (layout x).object (z +ℤ dot at (row_major ds))) h.begins ∙ ap (λ z. m.contents (layout x).object z) (+ℤ_idl (dot at (row_major ds))) ∙ h.contents at r;
       apart = λ at bt r q k. injective at bt ds r q k;
@@ -224,7 +227,7 @@ begun g most layout world p s m ts names valid extents_are same separate small g
 
     apart_here : (b c : ℕ) (shape other : Shape) → s.scene.buffers b ≡ Some shape → s.scene.buffers c ≡ Some other → (at bt : List ℤ) → in_range at shape.dims ≡ true → in_range bt other.dims ≡ true → spot_of layout b shape at ≡ spot_of layout c other bt → (b ≡ c) × (at ≡ bt)
     apart_here b c shape other e f at bt r q one =
-        let id = separate b c shape other e f (ap (λ z. z.object) one) in
+        let id = separate b c shape other e f at bt r q one in
         let shapes : shape ≡ other = some_same (sym e ∙ ap s.scene.buffers id ∙ f) in
         let there : (layout b).offset +ℤ dot at shape.strides ≡ (layout b).offset +ℤ dot bt shape.strides = ap (λ z. z.offset) one ∙ ap₂ (λ k z. (layout k).offset +ℤ dot bt z.strides) (sym id) (sym shapes) in
         (id, (here b shape e).apart at bt r (subst (λ z. in_range bt z.dims ≡ true) (sym shapes) q) (without (layout b).offset (dot at shape.strides) (dot bt shape.strides) there))

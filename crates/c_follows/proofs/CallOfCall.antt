@@ -50,7 +50,7 @@ lower_follows = record {
   named = named_apart lower.writes (λ k. false);
   distinct = (refl, tt);
   good = (((tt, tt), (omega arith, tt)), tt);
-  follows = λ place s m match. blocks_follow lower_ground (param_forms params) zero_bounds itself place lower_world no_kinds [] alone setting_one.body lower_calls
+  follows = λ place s m match holds. blocks_follow lower_ground (param_forms params) zero_bounds itself place lower_world no_kinds [] alone setting_one.body lower_calls
       (((I32, inr (Lit (pos 2) ∷ [], refl, refl)), ((tt, tt), (omega arith, tt)), seven), tt) (λ y e. e) s m match;
 }
 
@@ -80,7 +80,7 @@ middle_follows = record {
   named = named_apart middle.writes (λ k. k == 0);
   distinct = (refl, tt);
   good = (((tt, tt), (omega arith, tt)), tt);
-  follows = λ place s m match. blocks_follow middle_ground (param_forms params) zero_bounds itself place middle_world no_kinds (setting_one ∷ []) middle_c_world passing_on.body middle_calls
+  follows = λ place s m match holds. blocks_follow middle_ground (param_forms params) zero_bounds itself place middle_world no_kinds (setting_one ∷ []) middle_c_world passing_on.body middle_calls
       ((refl, ((Lit (pos 2) ∷ [], 0, refl, refl, λ h. refl), tt)), tt) (λ y e. e) s m match;
 }
 

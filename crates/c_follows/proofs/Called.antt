@@ -119,11 +119,11 @@ module _ (Few : Type 0) (g : Ground) (c_world : CWorld) (forms : Forms) (most : 
     Ended = Ends followed.own (param_forms ps) callee_layout inner (with_names callee_names m)
 
     body_follows : Follows Few Ended (run_asserted c inner) (f.run (with_names callee_names m))
-    body_follows = go (all_hold inner.scene c.procedure.asserts)
+    body_follows = go (all_hold inner.scene c.procedure.asserts) refl
       where
-        go : (t : Bool) → Follows Few Ended (where_true t (c.run inner)) (f.run (with_names callee_names m))
-        go false = tt
-        go true = fewer Few (few inner) Ended (c.run inner) _ few_inside (followed.follows callee_layout inner (with_names callee_names m) (entered_match g followed.own forms most root layout s inner m match c_world.globals (g.bounds k) ps gs ts enters))
+        go : (t : Bool) → all_hold inner.scene c.procedure.asserts ≡ t → Follows Few Ended (where_true t (c.run inner)) (f.run (with_names callee_names m))
+        go false e = tt
+        go true e = fewer Few (few inner) Ended (c.run inner) _ few_inside (followed.follows callee_layout inner (with_names callee_names m) (entered_match g followed.own forms most root layout s inner m match c_world.globals (g.bounds k) ps gs ts enters) e)
 
     inner_follows : Follows Few Runs (option_map (returned c gs s) (run_asserted c inner)) (run_in_place c_world (Some f) ts m)
     inner_follows =

@@ -34,6 +34,7 @@ pub mod Reading
 pub mod Arguments
 pub mod Wholes
 pub mod Lanes
+pub mod Holes
 pub mod WithCalls
 pub mod Functions
 pub mod Instance

@@ -48,7 +48,7 @@ adding_follows = record {
   named = named_apart;
   distinct = (refl, (refl, (refl, tt)));
   good = (((tt, tt), (omega arith, tt)), (((tt, tt), (omega arith, tt)), (((tt, tt), (omega arith, tt)), tt)));
-  follows = λ place s m match. blocks_follow own_ground (param_forms params) zero_bounds itself place lower_world no_kinds [] alone adding.body no_calls
+  follows = λ place s m match holds. blocks_follow own_ground (param_forms params) zero_bounds itself place lower_world no_kinds [] alone adding.body no_calls
       (((I32, inl (refl, refl)), ((tt, tt), (omega arith, tt)), (((I32, inl (refl, refl)), ((tt, tt), (omega arith, tt))), ((I32, inl (refl, refl)), ((tt, tt), (omega arith, tt))))), tt) (λ y e. e) s m match;
 }
 

@@ -167,7 +167,7 @@ module _ (naming : Naming) (forms : Forms) (most : ℕ → ℕ) (layout : Layout
             ap (λ z. record { object = (layout w.seen.buffer).object; offset = (layout w.seen.buffer).offset +ℤ z }) split
             ∙ ap (λ z. record { object = (layout w.seen.buffer).object; offset = z }) (sym (+ℤ_assoc (layout w.seen.buffer).offset (dot (lower_ends w.seen.sides) w.shape.strides) (dot ns strides)))
 
-        window_spot : spot setting (InWindow (naming.binder x) (scaled (numbers_of naming forms is) (window_strides (naming.binder x) 0 rank))) ≡ Done (spot_of layout w.seen.buffer w.shape at)
+        pub window_spot : spot setting (InWindow (naming.binder x) (scaled (numbers_of naming forms is) (window_strides (naming.binder x) 0 rank))) ≡ Done (spot_of layout w.seen.buffer w.shape at)
         window_spot =
             ap (λ o. after o (λ k. after (from_window (setting.names (naming.binder x)) k) (inside setting))) offset_is
             ∙ ap (λ n. after (from_window n (dot ns strides)) (inside setting)) w.name

@@ -4,6 +4,19 @@ use Rattle.exo_meaning.specs.Scene.{then_do}
 use Rattle.c_machine.specs.Machine.{Outcome, Done, Fault, NoStore, after, where_good}
 use Rattle.c_follows.specs.Simulation.{Follows}
 
+-- ---- what is done
+
+pub done_is : {A : Type 0} {a b : A} → Done a ≡ Done b → a ≡ b
+done_is e = cc
+
+pub fault_is_not_done : {A : Type 0} {a : A} → Fault ≡ Done a → ⊥
+fault_is_not_done e = cc
+
+pub no_store_is_not_done : {A : Type 0} {a : A} → NoStore ≡ Done a → ⊥
+no_store_is_not_done e = cc
+
+-- ---- one after the other
+
 module _ (Few : Type 0) where
   pub nothing : {C D : Type 0} (S : C → D → Type 0) (o : Option C) → (Few → ⊥) → Follows Few S o NoStore
   nothing S None h = tt

@@ -80,7 +80,7 @@ origin_first [] ts = refl
 origin_first (d ∷ ds) [] = refl
 origin_first (d ∷ ds) (t ∷ ts) = ap₂ (λ a b. a +ℤ b) (zero-*ℤ t) (origin_first ds ts)
 
-array_alone : (s : Setting) (x : Name) (lanes : ℕ) (p : Pointer) → thing_alone s x (Some (array_at lanes p)) ≡ Done (array_at lanes p)
+pub array_alone : (s : Setting) (x : Name) (lanes : ℕ) (p : Pointer) → thing_alone s x (Some (array_at lanes p)) ≡ Done (array_at lanes p)
 array_alone s x zero p = refl
 array_alone s x (suc n) p = refl
 
@@ -140,7 +140,7 @@ module _ (Few : Type 0) (g : Ground) (forms : Forms) (most : ℕ → ℕ) (root 
     abbrev strides : List Number64
     strides = row_strides (dims_of g.naming dims)
 
-    first_is : spot_by from m.setting (InArray (g.naming.binder x) (offset (without_lanes lanes (zeros strides)) (without_lanes lanes (dims_of g.naming dims)))) ≡ Done (layout x)
+    pub first_is : spot_by from m.setting (InArray (g.naming.binder x) (offset (without_lanes lanes (zeros strides)) (without_lanes lanes (dims_of g.naming dims)))) ≡ Done (layout x)
     first_is =
         let back = at_first (layout x) (dot (origin t.extents) (row_major t.extents)) (origin_first t.extents (row_major t.extents)) in
         ap (λ o. after o (λ k. after (from (m.setting.names (g.naming.binder x)) k) (inside m.setting))) (zero_first m.setting lanes strides (dims_of g.naming dims) (numbers s.scene dims) (same_numbers g.naming forms most layout s.scene m.setting match.names _ dims t.plain t.narrow))

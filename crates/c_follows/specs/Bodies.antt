@@ -1,5 +1,5 @@
--- What the templates of instructions are to do: what their bodies say, in place.
-use Rattle.std.specs.Prelude.{◌≡◌, ℕ, true, List, [], Option, Some, None, slice_get}
+-- What the bodies of procedures do in the C, in place.
+use Rattle.std.specs.Prelude.{ℕ, List, [], Option, Some, None, slice_get}
 use Rattle.exo_tree.specs.Tree.{Binder, Procedure, Program}
 use Rattle.c_names.specs.Words.{Name}
 use Rattle.c_names.specs.Binders.{c_names}
@@ -7,7 +7,7 @@ use Rattle.exo_calls.specs.Tabled.{tabled}
 use Rattle.c_machine.specs.Machine.{Thing}
 use Rattle.c_machine.specs.CRun.{Behaviour, run_c, globals_of}
 use Rattle.c_lowered.specs.Lowered.{Routine, Naming, param_forms, block_of}
-use Rattle.c_lowered.specs.LoweredUnit.{Printing, memory_of, routine_of, naming_in, formals_of, counts, global_names, lowered}
+use Rattle.c_lowered.specs.LoweredUnit.{Printing, memory_of, routine_of, naming_in, formals_of, global_names, lowered}
 
 -- in place of a template
 abbrev pub as_template : Routine → Routine
@@ -32,12 +32,3 @@ body_of program names globals above p =
 -- what the bodies of all procedures do, in place; by number
 abbrev pub bodies_of : Program → List Printing → List Behaviour
 bodies_of program what = tabled (body_of program (global_names program what) (globals_of (lowered program what))) [] program.procedures
-
--- The template of each instruction that is called, directly or through others, does what its body says.
-abbrev pub TemplatesDoTheirBodies : Program → List Printing → (ℕ → Option Behaviour) → Type 0
-TemplatesDoTheirBodies program what templates =
-    (k : ℕ) (p : Procedure) (text : List ℕ)
-    → slice_get program.procedures k ≡ Some p
-    → p.template ≡ Some text
-    → counts program what k ≡ true
-    → templates k ≡ slice_get (bodies_of program what) k

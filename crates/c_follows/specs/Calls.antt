@@ -2,7 +2,7 @@
 use Rattle.std.specs.Prelude.{◌≡◌, ℕ, true, false, List, [], Option, Some, None}
 use Rattle.exo_tree.specs.Tree.{Kind, Block, Procedure}
 use Rattle.exo_meaning.specs.State.{State}
-use Rattle.exo_meaning.specs.Calls.{Callee}
+use Rattle.exo_meaning.specs.Calls.{Callee, all_hold}
 use Rattle.exo_meaning.specs.Run.{World, run}
 use Rattle.inplace_laws.specs.CallInPlace.{AreDistinct}
 use Rattle.c_widths.specs.Few.{Fewness, AllocatesFew, no_fewness, fewness_from}
@@ -14,8 +14,8 @@ use Rattle.c_lowered.specs.LoweredUnit.{formals_of}
 use Rattle.c_follows.specs.Simulation.{Ground, Follows, Layout, Matches, Ends}
 use Rattle.c_follows.specs.Good.{IsGoodBlock, MayStore, AreGoodParams, AreNamedApart}
 
--- What is called does in the C what it does in the source: its body follows, from wherever its parameters hold the same,
--- on ground of its own, which has the caller's fields and functions.
+-- What is called does in the C what it does in the source: its body follows, from wherever its parameters hold the same and
+-- its assertions hold, on ground of its own, which has the caller's fields and functions.
 pub record IsFollowed (g : Ground) (few : State → Type 0) (c : Callee) (f : Behaviour) (k : ℕ) : Type 0 where
   pub own : Ground
   pub params : c.procedure.params ≡ (g.naming.routine k).params
@@ -30,6 +30,7 @@ pub record IsFollowed (g : Ground) (few : State → Type 0) (c : Callee) (f : Be
   pub follows :
       (layout : Layout) (s : State) (m : Machine)
       → Matches own (param_forms c.procedure.params) (g.bounds k) (λ x. x) layout s m
+      → all_hold s.scene c.procedure.asserts ≡ true
       → Follows (few s) (Ends own (param_forms c.procedure.params) layout s m) (c.run s) (f.run m)
 
 -- a function goes by its name, an instruction by its number

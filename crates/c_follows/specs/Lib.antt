@@ -2,7 +2,10 @@ pub mod Magnitude
 pub mod Simulation
 pub mod Good
 pub mod Calls
+pub mod Holes
 pub mod Bodies
+pub mod Grounds
+pub mod Templates
 pub mod SameInput
 pub mod Units
 pub mod Functions

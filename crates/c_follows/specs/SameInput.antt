@@ -1,14 +1,17 @@
--- One input for a procedure and for its C.
-use Rattle.std.specs.Prelude.{◌≡◌, ◌^◌, ℕ, ℤ, pos, ◌+ℤ◌, ◌≤ℤ◌, nat_lt, true, List, [], ◌∷◌, length, Some, ⊤}
+-- One input for a procedure and for its C. The input is valid, so numbers, fields and strides are
+-- within 2 ^ 48: the machine need not ask whether what a name holds fits 64 bits.
+use Rattle.std.specs.Prelude.{◌≡◌, ◌^◌, ℕ, ℤ, pos, ◌+ℤ◌, ◌≤ℤ◌, nat_lt, true, List, [], ◌∷◌, length}
+use Rattle.std.specs.Prelude.{Some, ⊤}
 use Rattle.exo_tree.specs.Tree.{Cell, Param, ParamKind, ControlParam, TensorParam, WindowParam}
 use Rattle.exo_meaning.specs.Scene.{Shape, numbers}
 use Rattle.exo_meaning.specs.State.{State}
 use Rattle.exo_meaning.specs.Run.{product, row_major}
 use Rattle.c_machine.specs.Machine.{Thing, IsNumber, IsArray, IsWindow, Object, Machine}
-use Rattle.c_follows.specs.Simulation.{Layout, dot, in_range}
+use Rattle.c_follows.specs.Simulation.{Layout, dot, in_range, spot_of}
 
 module _ (layout : Layout) (s : State) (m : Machine) where
-  -- a tensor is one object, row-major, with the same cells
+  -- a tensor stands at the beginning of an object of at most 2 ^ 48 cells, row-major, with the
+  -- same cells
   pub record IsSameTensor (x : ℕ) (cell : Cell) (extents : List ℤ) (t : Thing) : Type 0 where
     pub object : Object
     pub thing : t ≡ IsArray (layout x)
@@ -16,7 +19,8 @@ module _ (layout : Layout) (s : State) (m : Machine) where
     pub there : m.setting.objects (layout x).object ≡ Some object
     pub below : nat_lt (layout x).object m.setting.free ≡ true
     pub same_cell : object.cell ≡ cell
-    pub size : object.size ≡ product extents
+    pub room : product extents ≤ℤ object.size
+    pub few : object.size ≤ℤ pos (2 ^ 48)
     pub contents :
         (at : List ℤ)
         → in_range at extents ≡ true
@@ -62,11 +66,14 @@ module _ (layout : Layout) (s : State) (m : Machine) where
   AreSame (p ∷ ps) [] = ⊥
   AreSame (p ∷ ps) (t ∷ ts) = IsSame p.binder.id p.kind t × AreSame ps ts
 
--- different buffers have different objects
+-- cells of different buffers lie at different spots, maybe of one object
 abbrev pub AreSeparate : Layout → State → Type 0
 AreSeparate layout s =
     (x y : ℕ) (shape other : Shape)
     → s.scene.buffers x ≡ Some shape
     → s.scene.buffers y ≡ Some other
-    → (layout x).object ≡ (layout y).object
+    → (at bt : List ℤ)
+    → in_range at shape.dims ≡ true
+    → in_range bt other.dims ≡ true
+    → spot_of layout x shape at ≡ spot_of layout y other bt
     → x ≡ y

@@ -1,5 +1,5 @@
 -- The C of printed procedures does what they do: what is to be shown of whole files.
-use Rattle.std.specs.Prelude.{◌≡◌, ◌<◌, ◌^◌, ℕ, ℤ, nat_lt, true, ◌&&◌, List, length, Option, Some, None, slice_get}
+use Rattle.std.specs.Prelude.{◌≡◌, ◌<◌, ◌^◌, ℕ, ℤ, nat_lt, true, List, length, Option, Some, None, slice_get}
 use Rattle.exo_tree.specs.Tree.{Procedure, Program}
 use Rattle.exo_tree.specs.Calls.{calls}
 use Rattle.exo_meaning.specs.Value.{IsRefinedBy}
@@ -8,25 +8,17 @@ use Rattle.exo_meaning.specs.State.{State}
 use Rattle.exo_meaning.specs.Run.{program_world}
 use Rattle.exo_meaning.specs.Inputs.{IsValid, run_procedure}
 use Rattle.exo_meaning.specs.Units.{IsUnit}
-use Rattle.c_names.specs.Binders.{c_names}
 use Rattle.c_names.specs.Clash.{first_clash}
 use Rattle.c_widths.specs.Raises.{widest}
 use Rattle.c_widths.specs.Few.{fewness_of}
 use Rattle.c_machine.specs.Machine.{Outcome, Done, Fault, Thing, Machine}
 use Rattle.c_machine.specs.CRun.{Behaviour, run_file}
 use Rattle.c_lowered.specs.Lowered.{Naming}
-use Rattle.c_lowered.specs.LoweredUnit.{Printing, is_listed, counts, is_used, global_names, naming_in, lowered}
+use Rattle.c_lowered.specs.LoweredUnit.{Printing, is_listed, counts, global_names, lowered}
 use Rattle.c_follows.specs.Simulation.{Declared, Layout, IsOutside, in_range, spot_of}
 use Rattle.c_follows.specs.SameInput.{AreSame, AreSeparate}
-use Rattle.c_follows.specs.Bodies.{TemplatesDoTheirBodies}
-
--- the fields of the unit that the printed procedures, their instructions and what these call use: the C declares them
-abbrev pub declared_in : Program → List Printing → Declared
-declared_in program what f = is_used program what f && nat_lt f (length program.fields)
-
--- the names of a printed procedure's binders and fields in the C
-abbrev pub naming_of : Program → List Printing → Procedure → Naming
-naming_of program what p = naming_in program (c_names (global_names program what) p)
+use Rattle.c_follows.specs.Grounds.{declared_in, naming_of}
+use Rattle.c_follows.specs.Templates.{TemplatesDoTheirBodies}
 
 -- What is printed: functions in the order of the unit, with all functions that they call.
 pub record IsListing (program : Program) (what : List Printing) : Type 0 where
@@ -50,7 +42,7 @@ pub record IsListing (program : Program) (what : List Printing) : Type 0 where
       → is_listed what j ≡ true
 
 -- One input for a procedure and for a call of its function: the things that it is called with are the arguments, and
--- each field that the C declares has the same number. Different arguments have different objects.
+-- each field that the C declares has the same number. Different arguments share no cell.
 pub record IsSameStart (program : Program) (what : List Printing) (p : Procedure) (layout : Layout)
     (s : State) (ts : List Thing) (m : Machine) : Type 0 where
   pub arguments : AreSame layout s m p.params ts

@@ -1,6 +1,7 @@
 //! Laws of the C, each the contract of a function with nothing to do.
 
 ghost use Rattle.c_follows.specs.Calls.{BlocksFollow, BlocksWithoutCallsFollow};
+ghost use Rattle.c_follows.specs.Holes.{HolesNameTheirArguments};
 ghost use Rattle.c_follows.specs.CallOfCall.{CallOfCall};
 ghost use Rattle.c_follows.specs.Functions.{FunctionsFollow, FunctionsWithoutCallsFollow};
 ghost use Rattle.c_follows.specs.Instance.{BlockInstance, CallInstance, RaisedInstance};
@@ -10,6 +11,12 @@ ghost use Rattle.c_follows.specs.Overlapping.{Overlapping};
 /// in place in the C, of a function by its name or of an instruction by its number.
 pub fn blocks_follow()
     ensures { BlocksFollow }
+{}
+
+/// A hole of a template is filled with the text of what is passed for the first parameter that it
+/// may name: of the number, or of the first cell of the buffer.
+pub fn holes_name_their_arguments()
+    ensures { HolesNameTheirArguments }
 {}
 
 /// From the same valid input a call of a function leaves what its procedure leaves, where what it calls is followed.

@@ -112,6 +112,14 @@ module _ (globals binders : List Name) (small : room globals binders < 2 ^ 63) w
   renamed_and_kept a b i r e =
       true≢false (sym i ∙ ap (is_in binders) (sym e) ∙ (or_false _ (is_in binders (numbered a (number_for a))) (renamed a)).1)
 
+  -- no binder has a word of C for a name
+  pub no_word : (x : Name) → is_word (c_name globals binders x) ≡ false
+  no_word x = go (is_reserved globals x) refl
+    where
+      go : (t : Bool) → is_reserved globals x ≡ t → is_word (c_name globals binders x) ≡ false
+      go false h = ap is_word (kept_name x h) ∙ (or_false (is_word x) (is_in globals x) h).0
+      go true h = ap is_word (new_name x h) ∙ numbered_no_word x (number_for x) (small_number x)
+
   pub names_apart : (a b : Name) → is_in binders a ≡ true → is_in binders b ≡ true → (a ≡ b → ⊥) → c_name globals binders a ≡ c_name globals binders b → ⊥
   names_apart a b i j n e = go (is_reserved globals a) (is_reserved globals b) refl refl
     where

@@ -36,21 +36,21 @@ own_number n = eq-eqb n n refl
 
 -- ---- a view's form
 
-span_count : (cs : List Coord) (ts : List Number64) → length ts ≡ length cs → length (at_spans cs ts) ≡ spans cs
+pub span_count : (cs : List Coord) (ts : List Number64) → length ts ≡ length cs → length (at_spans cs ts) ≡ spans cs
 span_count [] ts e = refl
 span_count (c ∷ cs) [] e = absurd (omega (arith, e))
 span_count (At a ∷ cs) (t ∷ ts) e = span_count cs ts (omega (arith, e))
 span_count (Span a b ∷ cs) (t ∷ ts) e = ap suc (span_count cs ts (omega (arith, e)))
 
-window_count : (w : Name) (k n : ℕ) → length (window_strides w k n) ≡ n
+pub window_count : (w : Name) (k n : ℕ) → length (window_strides w k n) ≡ n
 window_count w k zero = refl
 window_count w k (suc n) = ap suc (window_count w (suc k) n)
 
-row_count : (ts : List Number64) → length (row_strides ts) ≡ length ts
+pub row_count : (ts : List Number64) → length (row_strides ts) ≡ length ts
 row_count [] = refl
 row_count (t ∷ ts) = ap suc (row_count ts)
 
-dims_count : (naming : Naming) (strides : ℕ → ℕ → Number64) (ds : List Control) → length (numbers_with naming strides ds) ≡ length ds
+pub dims_count : (naming : Naming) (strides : ℕ → ℕ → Number64) (ds : List Control) → length (numbers_with naming strides ds) ≡ length ds
 dims_count naming strides [] = refl
 dims_count naming strides (d ∷ ds) = ap suc (dims_count naming strides ds)
 

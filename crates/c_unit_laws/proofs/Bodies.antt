@@ -7,20 +7,25 @@ use Rattle.exo_meaning.specs.Calls.{Callee}
 use Rattle.exo_meaning.specs.Run.{kinds_of}
 use Rattle.exo_meaning.specs.Units.{IsUnit}
 use Rattle.exo_calls.proofs.Entries.{table_entry}
-use Rattle.exo_calls.proofs.Reach.{closed_is_closed}
+use Rattle.exo_calls.proofs.Reach.{seeds_are_closed, closed_is_closed}
 use Rattle.memory_kinds.specs.Faults.{fault_of}
+use Rattle.c_widths.specs.Few.{fewness_of}
 use Rattle.c_machine.specs.CRun.{Behaviour, CWorld, globals_of}
-use Rattle.c_lowered.specs.Lowered.{Naming}
+use Rattle.c_lowered.specs.Lowered.{Naming, param_forms}
 use Rattle.c_lowered.specs.LoweredUnit.{Printing, is_listed, counts, global_names, lowered}
+use Rattle.c_follows.specs.Simulation.{Ends}
 use Rattle.c_follows.specs.Calls.{IsFollowed}
 use Rattle.c_follows.specs.Bodies.{body_of, bodies_of}
+use Rattle.c_follows.specs.Templates.{TemplatesDoTheirBodies}
 use Rattle.c_follows.specs.Functions.{behaviour_of}
 use Rattle.c_follows.specs.Units.{AreLowered}
-use Rattle.c_unit_laws.specs.Grounds.{ground_of, plain_naming, plain_ground}
+use Rattle.c_follows.specs.Grounds.{world_above, bounds_in, ground_of, plain_naming, plain_ground}
+use Rattle.c_unit_laws.proofs.Listed.{listed_here}
 use Rattle.c_unit_laws.proofs.Standing.{Stood, stood, get_taken, calls_before}
-use Rattle.c_unit_laws.proofs.Fewer.{few_before, few_above}
+use Rattle.c_follows.proofs.WithCalls.{blocks_follow}
+use Rattle.c_unit_laws.proofs.Fewer.{few_at, few_before, few_above}
 use Rattle.c_unit_laws.proofs.Functions.{field_global, function_global}
-use Rattle.c_unit_laws.proofs.Followed.{IsOfFile, FewAt, callee_of, HasCalls, followed}
+use Rattle.c_unit_laws.proofs.Followed.{IsOfFile, FewAt, callee_of, HasCalls, follows_less, followed}
 use Rattle.c_unit_laws.proofs.Units.{bodies_are_good}
 
 module _ (program : Program) (what : List Printing) (unit : IsUnit program) (lowers : AreLowered fault_of program what) where
@@ -69,6 +74,18 @@ module _ (program : Program) (what : List Printing) (unit : IsUnit program) (low
           let own = body_followed (plain_naming program what p) (plain_is_of_file p) k p j q s.at counted (later q (omega (arith, b, s.before)) s.at counted) (few_before (kinds_of program.fields) program.procedures k j) (λ t h. few_above (kinds_of program.fields) program.procedures k j q t s.before s.at h) in
           (body_at j q, get_taken bodies k j s.before ∙ body_there j q s.at, subst (λ e. IsFollowed (plain_ground program what k p) (few_before (kinds_of program.fields) program.procedures k j) e (body_at j q) j) s.same own)
 
-  -- so each that counts is followed, from any caller's ground
-  pub bodies_followed : (caller : Naming) → IsOfFile program caller → (i : ℕ) (r : Procedure) (k : ℕ) (p : Procedure) → slice_get program.procedures k ≡ Some p → counts program what k ≡ true → (few : State → Type 0) → ((s : State) → few s → FewAt program what k p s) → IsFollowed (ground_of program what caller i r) few (callee_of program what k p) (body_at k p) k
-  bodies_followed caller is i r k p at c few fewer = body_followed caller is i r k p at c (body_calls (suc k) k p (omega arith) at c) few fewer
+  -- so each that a printed procedure calls is a template that does what its body says
+  pub bodies_are_templates : TemplatesDoTheirBodies program what (slice_get bodies)
+  bodies_are_templates i k w caller p text there at_caller u at t =
+      let counted = called_counts w.proc k caller at_caller (seeds_are_closed (λ q. true) (is_listed what) program.procedures w.proc (listed_here what i w there)) u in
+      let good = bodies_are_good program what k p unit lowers at counted in
+      let g = plain_ground program what k p in (
+        body_at k p,
+        body_there k p at,
+        record {
+          formals = refl;
+          follows = λ layout s m match holds. follows_less (FewAt program what k p s) (fewness_of program k s) (Ends g (param_forms p.params) layout s m) ((callee_of program what k p).run s) ((body_at k p).run m)
+              (few_at (kinds_of program.fields) program.procedures k p s at)
+              (blocks_follow g (param_forms p.params) (bounds_in program what k) (λ x. x) layout (world_above program k) (kinds_of program.fields) (take k program.procedures) (body_world k) p.body (body_calls (suc k) k p (omega arith) at counted) good.body good.may s m match);
+        },
+      )

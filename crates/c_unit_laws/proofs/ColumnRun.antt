@@ -15,7 +15,8 @@ use Rattle.c_machine.specs.CRun.{run_file}
 use Rattle.c_lowered.specs.LoweredUnit.{is_used, lowered}
 use Rattle.c_lowered.specs.Examples.{col}
 use Rattle.c_follows.specs.SameInput.{AreSeparate}
-use Rattle.c_follows.specs.Units.{IsSameStart, declared_in}
+use Rattle.c_follows.specs.Grounds.{declared_in}
+use Rattle.c_follows.specs.Units.{IsSameStart}
 use Rattle.c_follows.proofs.Instance.{machine_of}
 use Rattle.c_unit_laws.specs.Instance.{filling, column_program, both_printed}
 use Rattle.c_unit_laws.specs.ColumnRun.{two_by_two, input, layout, machine, things, no_templates, ColumnsRun, PrintingsAreComputed}
@@ -130,7 +131,7 @@ valid_input = record {
 -- ---- the same beginning
 
 one_object : AreSeparate layout input
-one_object x y shape other e f same = held x (λ n all. absurd (none_some (sym n ∙ e))) (λ i all. held y (λ n others. absurd (none_some (sym n ∙ f))) (λ j others. i ∙ sym j))
+one_object x y shape other e f at bt r q one = held x (λ n all. absurd (none_some (sym n ∙ e))) (λ i all. held y (λ n others. absurd (none_some (sym n ∙ f))) (λ j others. i ∙ sym j))
 
 no_field : (f : ℕ) → declared_in column_program both_printed f ≡ true → ⊥
 no_field f h = go (is_used column_program both_printed f) h
@@ -144,7 +145,7 @@ no_field f h = go (is_used column_program both_printed f) h
 
 same_start : IsSameStart column_program both_printed (col filling) layout input things machine
 same_start = record {
-  arguments = (refl, (refl, (record { object = record { cell = I32; size = pos 4; heap = false }; thing = refl; begins = refl; there = refl; below = refl; same_cell = refl; size = refl; contents = λ at h. refl }, tt)));
+  arguments = (refl, (refl, (record { object = record { cell = I32; size = pos 4; heap = false }; thing = refl; begins = refl; there = refl; below = refl; same_cell = refl; room = omega (arith, ints); few = omega (arith, ints); contents = λ at h. refl }, tt)));
   fields = λ f h. absurd (no_field f h);
   separate = one_object;
 }
@@ -161,7 +162,7 @@ pub columns_run : ColumnsRun
 unfolding is_word int_wrap
 columns_run = record {
   none = refl;
-  does = λ k p text e f c. absurd (no_text k p text e f);
+  does = λ i k w caller p text there at u e t. absurd (no_text k p text e t);
   valid = valid_input;
   start = same_start;
   runs = refl;

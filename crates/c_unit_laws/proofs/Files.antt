@@ -9,36 +9,32 @@ use Rattle.exo_meaning.specs.Run.{kinds_of}
 use Rattle.exo_meaning.specs.Units.{IsUnit}
 use Rattle.memory_kinds.specs.Faults.{fault_of}
 use Rattle.c_names.specs.Words.{Name, same_name, is_in}
-use Rattle.c_widths.specs.Few.{Fewness}
+use Rattle.c_widths.specs.Few.{Fewness, fewness_of}
 use Rattle.c_machine.specs.CRun.{Behaviour, CWorld, globals_of, file_world}
+use Rattle.c_lowered.specs.Lowered.{param_forms}
 use Rattle.c_lowered.specs.LoweredUnit.{Printing, holes_of, routine_of, function_of, function_at, functions_of, is_listed, counts, name_of, printed_names, global_names, lowered}
 use Rattle.c_follows.specs.Good.{is_function}
 use Rattle.c_follows.specs.Calls.{called_in, IsFollowed}
-use Rattle.c_follows.specs.Bodies.{TemplatesDoTheirBodies}
+use Rattle.c_follows.specs.Templates.{DoesItsBody, TemplatesDoTheirBodies}
 use Rattle.c_follows.specs.Functions.{behaviour_of}
-use Rattle.c_follows.specs.Units.{AreLowered, naming_of}
-use Rattle.c_unit_laws.specs.Grounds.{function_in, printed_ground}
+use Rattle.c_follows.specs.Units.{AreLowered}
+use Rattle.c_follows.specs.Simulation.{Ends}
+use Rattle.c_follows.specs.Grounds.{naming_of, function_in, printed_ground, plain_ground}
 use Rattle.c_unit_laws.proofs.Spelling.{same_self}
 use Rattle.c_unit_laws.proofs.ClearBlocks.{no_template}
 use Rattle.c_unit_laws.proofs.Standing.{none_some, some_same, Stood, stood, calls_before}
-use Rattle.c_unit_laws.proofs.Listed.{listed_at}
-use Rattle.c_unit_laws.proofs.Fewer.{few_before, few_above}
+use Rattle.c_unit_laws.proofs.Listed.{listed_here, listed_at}
+use Rattle.c_unit_laws.proofs.Fewer.{few_before, few_above, made_few}
 use Rattle.c_unit_laws.proofs.Functions.{field_global, function_global, found_above, functions_once}
-use Rattle.c_unit_laws.proofs.Followed.{IsOfFile, FewAt, callee_of, HasCalls, followed}
-use Rattle.c_unit_laws.proofs.Units.{printed_procedures_are_good}
-use Rattle.c_unit_laws.proofs.Bodies.{body_there, body_at, called_counts, bodies_followed}
+use Rattle.c_unit_laws.proofs.Followed.{IsOfFile, FewAt, callee_of, HasCalls, follows_less, followed}
+use Rattle.c_unit_laws.proofs.Units.{printed_procedures_are_good, bodies_are_good}
+use Rattle.c_unit_laws.proofs.Bodies.{called_counts}
 
 -- ---- what is listed
 
 either : (a b : Bool) → b ≡ true → (a || b) ≡ true
 either true b i = refl
 either false b i = i
-
-pub listed_here : (what : List Printing) (i : ℕ) (w : Printing) → slice_get what i ≡ Some w → is_listed what w.proc ≡ true
-listed_here [] zero w e = absurd (none_some e)
-listed_here [] (suc i) w e = absurd (none_some e)
-listed_here (v ∷ what) zero w e = ap (λ t. t || is_listed what w.proc) (eq-eqb w.proc v.proc (ap (λ z. z.proc) (sym (some_same e))))
-listed_here (v ∷ what) (suc i) w e = either (w.proc == v.proc) (is_listed what w.proc) (listed_here what i w e)
 
 -- a listed procedure's name is one of a function
 name_listed : (program : Program) (what : List Printing) (j : ℕ) (q : Procedure) → slice_get program.procedures j ≡ Some q → is_listed what j ≡ true → is_in (printed_names program what) q.name ≡ true
@@ -104,13 +100,31 @@ module _ (program : Program) (what : List Printing) (unit : IsUnit program) (low
     abbrev Earlier : Type 0
     Earlier = (l : ℕ) (v : Printing) (q : Procedure) → l < i → slice_get what l ≡ Some v → slice_get program.procedures v.proc ≡ Some q → HasCalls program what (naming_of program what q) v.proc q (file_at l)
 
+    -- one that does what its body says is followed
+    template_followed : (j : ℕ) (q : Procedure) → calls j p.body ≡ true → j < w.proc → slice_get program.procedures j ≡ Some q → counts program what j ≡ true → (f : Behaviour) → DoesItsBody program what j q f → IsFollowed (printed_ground program what w.proc p) (Before w.proc j) (callee_of program what j q) f j
+    template_followed j q u b e counted f template =
+        let g = plain_ground program what j q in
+        let good = bodies_are_good program what j q unit lowers e counted in
+        record {
+          own = g;
+          params = sym (ap (λ o. (routine_of o).params) e);
+          field = refl;
+          declared = refl;
+          function = refl;
+          stored = refl;
+          formals = template.formals;
+          named = good.named;
+          distinct = good.distinct;
+          good = good.params;
+          follows = λ layout s m match holds. follows_less (fewness_of program j s) (Before w.proc j s) (Ends g (param_forms q.params) layout s m) ((callee_of program what j q).run s) (f.run m)
+              (λ h. made_few (kinds_of program.fields) program.procedures j q s e (few_above (kinds_of program.fields) program.procedures w.proc j q s b e h))
+              (template.follows layout s m match holds);
+        }
+
     called_instruction : (j : ℕ) (q : Procedure) (text : List ℕ) → calls j p.body ≡ true → j < w.proc → slice_get program.procedures j ≡ Some q → q.template ≡ Some text → counts program what w.proc ≡ true → Called j q (Some text)
     called_instruction j q text u b e t c =
-        let counted = called_counts program what unit lowers w.proc j p at c u in (
-          body_at program what unit lowers j q,
-          does j q text e t counted ∙ body_there program what unit lowers j q e,
-          bodies_followed program what unit lowers (naming_of program what p) (printed_is_of_file p) w.proc p j q e counted (Before w.proc j) (λ s h. few_above (kinds_of program.fields) program.procedures w.proc j q s b e h),
-        )
+        let template = does i j w p q text there at u e t in
+        (template.0, template.1, template_followed j q u b e (called_counts program what unit lowers w.proc j p at c u) template.0 template.2)
 
     called_function : (j : ℕ) (q : Procedure) → calls j p.body ≡ true → j < w.proc → slice_get program.procedures j ≡ Some q → q.template ≡ None → Earlier → Called j q None
     called_function j q u b e t before =

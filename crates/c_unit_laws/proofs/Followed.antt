@@ -13,7 +13,7 @@ use Rattle.c_follows.specs.Simulation.{Follows, Ends}
 use Rattle.c_follows.specs.Calls.{IsFollowed, CallsFollow}
 use Rattle.c_follows.specs.Functions.{behaviour_of}
 use Rattle.c_follows.proofs.WithCalls.{blocks_follow}
-use Rattle.c_unit_laws.specs.Grounds.{world_above, bounds_in, ground_of}
+use Rattle.c_follows.specs.Grounds.{world_above, bounds_in, ground_of}
 use Rattle.c_unit_laws.specs.Laws.{IsGoodProcedure}
 use Rattle.c_unit_laws.proofs.Fewer.{few_before}
 
@@ -57,6 +57,6 @@ module _ (program : Program) (what : List Printing) where
       named = good.named;
       distinct = good.distinct;
       good = good.params;
-      follows = λ layout s m match. follows_less (FewAt k p s) (few s) (Ends (ground_of program what own k p) (param_forms p.params) layout s m) ((callee_of k p).run s) ((behaviour_of (ground_of program what own k p) c_world p).run m) (fewer s)
+      follows = λ layout s m match holds. follows_less (FewAt k p s) (few s) (Ends (ground_of program what own k p) (param_forms p.params) layout s m) ((callee_of k p).run s) ((behaviour_of (ground_of program what own k p) c_world p).run m) (fewer s)
           (blocks_follow (ground_of program what own k p) (param_forms p.params) (bounds_in program what k) (λ x. x) layout (world_above program k) (kinds_of program.fields) (take k program.procedures) c_world p.body calls good.body good.may s m match);
     }

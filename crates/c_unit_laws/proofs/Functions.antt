@@ -7,8 +7,7 @@ use Rattle.c_tree.specs.CTree.{CFunction}
 use Rattle.c_machine.specs.Machine.{Thing, IsField, IsFunction, named}
 use Rattle.c_machine.specs.CRun.{Behaviour, CWorld, behaviour, all_named, names_of_functions, globals_of, with_functions}
 use Rattle.c_lowered.specs.LoweredUnit.{Printing, field_name, named_field, name_of, function_at, functions_of, printed_names, fields_of, global_names, lowered}
-use Rattle.c_follows.specs.Units.{declared_in}
-use Rattle.c_unit_laws.specs.Grounds.{function_in}
+use Rattle.c_follows.specs.Grounds.{declared_in, function_in}
 use Rattle.c_unit_laws.proofs.Spelling.{same_self, names_equal}
 use Rattle.c_unit_laws.proofs.Free.{or_false}
 use Rattle.c_unit_laws.proofs.Names.{clash_parts, in_front, in_rear, field_listed}

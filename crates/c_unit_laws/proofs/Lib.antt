@@ -16,6 +16,8 @@ pub mod Standing
 pub mod Given
 pub mod Listed
 pub mod Units
+pub mod FreeNames
+pub mod NamedStructs
 pub mod Instance
 pub mod Fewer
 pub mod Functions
@@ -26,6 +28,7 @@ pub mod Files
 pub mod UnitsFollow
 pub mod Stores
 pub mod Runs
+pub mod StrictTemplates
 pub mod Listings
 pub mod ColumnRun
 pub mod OfUndeclared

@@ -1,5 +1,5 @@
 -- What is known of a procedure that is printed or called.
-use Rattle.std.proofs.Common.{◌≡◌, ◌<◌, ◌≤◌, ◌+◌, ◌-◌, ◌^◌, ◌==◌, ℕ, zero, suc, nat_lt, Bool, true, false, not, ◌&&◌, ◌||◌, cond, List, [], ◌∷◌, length, take, map, Option, Some, None, refl, sym, ap, ◌∙◌, subst, arith, true≢false, eqb, eqb-true, slice_get}
+use Rattle.std.proofs.Common.{◌≡◌, ◌<◌, ◌≤◌, ◌+◌, ◌-◌, ◌^◌, ◌==◌, ℕ, zero, suc, nat_lt, Bool, true, false, not, ◌&&◌, ◌||◌, cond, List, [], ◌∷◌, length, take, map, Option, Some, None, refl, sym, ap, ◌∙◌, subst, arith, true≢false, eqb, eqb-true, eq-eqb, slice_get}
 use Rattle.std.specs.List.{list_any, list_all, IsDistinct, AllByRecursion}
 use Rattle.std.proofs.lemmas.Map.Steps.{length-le_from_distinct_below}
 use Rattle.std.proofs.lemmas.Bool.{and_parts}
@@ -26,6 +26,12 @@ no_entry {A = A} {a = a} xs k e h = go k (sym (ap (λ ys. slice_get ys k) h) ∙
 either : (a b : Bool) → b ≡ true → (a || b) ≡ true
 either true b i = refl
 either false b i = i
+
+pub listed_here : (what : List Printing) (i : ℕ) (w : Printing) → slice_get what i ≡ Some w → is_listed what w.proc ≡ true
+listed_here [] zero w e = absurd (none_some e)
+listed_here [] (suc i) w e = absurd (none_some e)
+listed_here (v ∷ what) zero w e = ap (λ t. t || is_listed what w.proc) (eq-eqb w.proc v.proc (ap (λ z. z.proc) (sym (some_same e))))
+listed_here (v ∷ what) (suc i) w e = either (w.proc == v.proc) (is_listed what w.proc) (listed_here what i w e)
 
 -- ---- lists
 

@@ -11,11 +11,10 @@ use Rattle.c_names.specs.Binders.{binders_in, binders_of, param_binders, all_bin
 use Rattle.c_names.specs.Clash.{clashing, first_clash}
 use Rattle.c_lowered.specs.LoweredUnit.{Printing, field_name, named_field, is_used, fields_from, fields_of, printed_names, global_names}
 use Rattle.c_follows.specs.Simulation.{Ground}
-use Rattle.c_follows.specs.Units.{declared_in}
-use Rattle.c_unit_laws.specs.Grounds.{function_in}
+use Rattle.c_follows.specs.Grounds.{declared_in, function_in}
 use Rattle.c_unit_laws.proofs.Spelling.{same_self, differ}
 use Rattle.c_unit_laws.proofs.Free.{or_false, room}
-use Rattle.c_unit_laws.proofs.Apart.{names_apart, no_global}
+use Rattle.c_unit_laws.proofs.Apart.{no_word, names_apart, no_global}
 use Rattle.c_unit_laws.proofs.Binders.{IsIn, AreNamed}
 
 -- ---- binders and their names
@@ -198,6 +197,14 @@ module _ (program : Program) (what : List Printing) (p : Procedure) (distinct : 
 
     others : (f h : ℕ) → declared_in program what f ≡ true → declared_in program what h ≡ true → (h ≡ f) ⊎ (same_name (name_at program.fields h) (name_at program.fields f) ≡ false)
     others f h d e = let q = declared_parts program what f d in let r = declared_parts program what h e in used_apart (is_used program what) program.fields f h q.1 r.1 q.0 r.0 (rear_clash (printed_names program what) (fields_of program what) clear)
+
+    -- they are no words of C, and no names of functions and fields
+    pub are_ordinary : (b : Binder) → IsIn b all → (is_word (g.naming.binder b.id) ≡ false) × (is_in globals (g.naming.binder b.id) ≡ false)
+    are_ordinary b h = (ap is_word (own_name b h) ∙ no_word globals (names_of all) few b.name, go (is_in globals (g.naming.binder b.id)) refl)
+      where
+        go : (t : Bool) → is_in globals (g.naming.binder b.id) ≡ t → t ≡ false
+        go false e = refl
+        go true e = absurd (no_global globals (names_of all) few (g.naming.binder b.id) b.name e (own_name b h))
 
     pub are_named : AreNamed g all
     are_named = record {

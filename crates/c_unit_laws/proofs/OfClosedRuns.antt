@@ -1,3 +1,4 @@
 pub mod Entries
 pub mod Add3
 pub mod FilledColumn
+pub mod SharedArray

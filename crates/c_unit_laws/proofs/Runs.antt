@@ -14,11 +14,14 @@ use Rattle.c_machine.specs.CRun.{run_file}
 use Rattle.c_lowered.specs.LoweredUnit.{is_used, lowered}
 use Rattle.c_lowered.specs.Examples.{copy8, vector_program}
 use Rattle.c_follows.specs.SameInput.{AreSeparate}
-use Rattle.c_follows.specs.Units.{IsSameStart, declared_in}
+use Rattle.c_follows.specs.Grounds.{declared_in}
+use Rattle.c_follows.specs.Units.{IsSameStart}
 use Rattle.c_follows.proofs.Instance.{machine_of}
 use Rattle.c_unit_laws.specs.Instance.{copy_printed}
 use Rattle.c_unit_laws.specs.Runs.{by_argument, eight_long, input, layout, object, machine, things, templates, VectorsRun}
 use Rattle.c_unit_laws.proofs.Standing.{none_some, some_same}
+use Rattle.c_unit_laws.proofs.Instance.{vectors_have_c}
+use Rattle.c_unit_laws.proofs.Bodies.{bodies_are_templates}
 
 -- what holds of each of three holds of one of them
 by_one : {A : Type 0} (P : A → Type 0) (a b c : A) (x : ℕ) → (x ≡ 6 → P a) → (x ≡ 7 → P b) → P c → P (by_argument a b c x)
@@ -108,8 +111,11 @@ valid_input = record {
 -- ---- the same beginning
 
 objects_apart : AreSeparate layout input
-objects_apart x y shape other e f same = go (x == 6) (y == 6) (x == 7) (y == 7) refl refl refl refl
+objects_apart x y shape other e f at bt r q alike = go (x == 6) (y == 6) (x == 7) (y == 7) refl refl refl refl
   where
+    same : (layout x).object ≡ (layout y).object
+    same = ap (λ z. z.object) alike
+
     no_buffer : (z : ℕ) (own : Shape) → (z == 6) ≡ false → (z == 7) ≡ false → input.scene.buffers z ≡ Some own → ⊥
     no_buffer z own i j k =
         let buffer = Some (tensor I32 eight_long) in
@@ -148,7 +154,7 @@ no_field f h = go (is_used vector_program copy_printed f) h
 
 same_start : IsSameStart vector_program copy_printed copy8 layout input things machine
 same_start = record {
-  arguments = (record { object = object; thing = refl; begins = refl; there = refl; below = refl; same_cell = refl; size = refl; contents = λ at h. refl }, (record { object = object; thing = refl; begins = refl; there = refl; below = refl; same_cell = refl; size = refl; contents = λ at h. refl }, tt));
+  arguments = (record { object = object; thing = refl; begins = refl; there = refl; below = refl; same_cell = refl; room = omega (arith, ints); few = omega (arith, ints); contents = λ at h. refl }, (record { object = object; thing = refl; begins = refl; there = refl; below = refl; same_cell = refl; room = omega (arith, ints); few = omega (arith, ints); contents = λ at h. refl }, tt));
   fields = λ f h. absurd (no_field f h);
   separate = objects_apart;
 }
@@ -159,7 +165,7 @@ ran = run_file (lowered vector_program copy_printed) templates 0 things machine
 pub vectors_run : VectorsRun
 unfolding is_word int_wrap
 vectors_run = record {
-  does = λ k p text e f c. refl;
+  does = bodies_are_templates vector_program copy_printed vectors_have_c.unit vectors_have_c.lowered;
   valid = valid_input;
   start = same_start;
   runs = refl;

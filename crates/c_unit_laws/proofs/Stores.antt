@@ -14,7 +14,7 @@ use Rattle.c_widths.specs.Few.{Fewness, CallAllocatesFew, AllocatesFew, Statemen
 use Rattle.c_unit_laws.specs.Stores.{allocates, step_allocates, none_allocates, allocates_nothing, FilesWithoutAllocationsAreDone}
 use Rattle.c_unit_laws.proofs.Free.{or_false}
 use Rattle.c_unit_laws.proofs.Standing.{none_some, some_same, one_longer, get_taken, take_shorter, Stood, stood, calls_before}
-use Rattle.c_unit_laws.proofs.Fewer.{Next, few_before}
+use Rattle.c_unit_laws.proofs.Fewer.{few_before, made_few, made_above}
 use Rattle.c_unit_laws.proofs.UnitsFollow.{files_follow}
 
 -- ---- blocks
@@ -60,47 +60,6 @@ module _ (world : World) (few : Fewness) where
     statement_few (Call k args) u h s = call_few (world.callees k) k args s (λ c e t. u k c e (own_number k) t)
 
 -- ---- units
-
-module _ (kinds : ℕ → Kind) where
-  -- later procedures change nothing
-  later : (ps : List Procedure) (above : List Callee) (few : Fewness) (j : ℕ) (s : State) → j < length above → few j s → fewness_from kinds above few ps j s
-  later [] above few j s b h = h
-  later (p ∷ ps) above few j s b h =
-      let c = callee_in (world_of kinds above) p in
-      let more = one_longer above c in
-      later ps (above ++ c ∷ []) (Next kinds above few p) j s (omega (arith, b, more))
-      (subst (λ t. one_of t (AllocatesFew (world_of kinds above) few p.body s) (few j s)) (sym (other (j == length above) refl)) h)
-    where
-      other : (t : Bool) → (j == length above) ≡ t → t ≡ false
-      other false e = refl
-      other true e = let d = eqb-true j (length above) e in absurd (omega (arith, b, d))
-
-  -- what a body allocates makes up what its procedure does
-  there : (ps : List Procedure) (above : List Callee) (few : Fewness) (i : ℕ) (q : Procedure) (s : State) → slice_get ps i ≡ Some q → AllocatesFew (world_of kinds (callees kinds above (take i ps))) (fewness_from kinds above few (take i ps)) q.body s → fewness_from kinds above few ps (length above + i) s
-  there [] above few zero q s e h = absurd (none_some e)
-  there [] above few (suc i) q s e h = absurd (none_some e)
-  there (p ∷ ps) above few zero q s e h =
-      let c = callee_in (world_of kinds above) p in
-      let more = one_longer above c in
-      let own : length above + zero ≡ length above = omega arith in
-      later ps (above ++ c ∷ []) (Next kinds above few p) (length above + zero) s (omega (arith, more))
-      (subst (λ t. one_of t (AllocatesFew (world_of kinds above) few p.body s) (few (length above + zero) s)) (sym (eq-eqb (length above + zero) (length above) own))
-      (subst (λ z. AllocatesFew (world_of kinds above) few z.body s) (sym (some_same e)) h))
-  there (p ∷ ps) above few (suc i) q s e h =
-      let c = callee_in (world_of kinds above) p in
-      let more = one_longer above c in
-      let next_one : length above + suc i ≡ length (above ++ c ∷ []) + i = omega (arith, more) in
-      subst (λ n. fewness_from kinds (above ++ c ∷ []) (Next kinds above few p) ps n s) (sym next_one) (there ps (above ++ c ∷ []) (Next kinds above few p) i q s e h)
-
-  pub made_few : (ps : List Procedure) (j : ℕ) (q : Procedure) (s : State) → slice_get ps j ≡ Some q → AllocatesFew (unit_world kinds (take j ps)) (few_before kinds ps j) q.body s → fewness_from kinds [] no_fewness ps j s
-  made_few ps j q s e h =
-      let own : zero + j ≡ j = omega arith in
-      subst (λ n. fewness_from kinds [] no_fewness ps n s) own (there ps [] no_fewness j q s e h)
-
-  made_above : (ps : List Procedure) (k j : ℕ) (q : Procedure) (s : State) → j < k → slice_get ps j ≡ Some q → AllocatesFew (unit_world kinds (take j ps)) (few_before kinds ps j) q.body s → few_before kinds ps k j s
-  made_above ps k j q s b e h =
-      made_few (take k ps) j q s (get_taken ps k j b ∙ e)
-      (subst (λ l. AllocatesFew (unit_world kinds l) (fewness_from kinds [] no_fewness l) q.body s) (sym (take_shorter ps k j b)) h)
 
 none_of : (reached : ℕ → Bool) (ps : List Procedure) (k i : ℕ) (p : Procedure) → none_allocates reached k ps ≡ true → slice_get ps i ≡ Some p → reached (k + i) ≡ true → allocates p.body ≡ false
 none_of reached [] k zero p h e r = absurd (none_some e)

@@ -11,6 +11,7 @@ use Rattle.inplace_laws.specs.CallInPlace.{AreDistinct}
 use Rattle.exo_calls.proofs.Reach.{seeds_are_closed}
 use Rattle.memory_kinds.specs.Homes.{param_homes}
 use Rattle.memory_kinds.specs.Faults.{fault_of, params_fault, block_fault, procedure_fault}
+use Rattle.c_names.specs.Words.{is_in, is_word}
 use Rattle.c_names.specs.Binders.{all_binders, param_binders, binders_in, c_names, name_in}
 use Rattle.c_widths.proofs.Covered.{raises_cover}
 use Rattle.c_widths.specs.Widths.{have_narrow_dims, are_narrow_tests, is_narrow_block, fits_cells, fits_stack}
@@ -19,19 +20,19 @@ use Rattle.c_lowered.specs.Lowered.{Naming, without_lanes, param_forms}
 use Rattle.c_lowered.specs.LoweredUnit.{Printing, routine_of, field_name, named_field, in_block, in_conditions, is_listed, counts, is_used, global_names}
 use Rattle.c_follows.specs.Simulation.{Ground}
 use Rattle.c_follows.specs.Good.{IsGoodBlock, AreGoodParams}
-use Rattle.c_follows.specs.Units.{AreLowered, declared_in, naming_of}
-use Rattle.c_unit_laws.specs.Grounds.{world_above, bounds_by, bounds_in, ground_of, plain_naming}
+use Rattle.c_follows.specs.Units.{AreLowered}
+use Rattle.c_follows.specs.Grounds.{declared_in, naming_of, world_above, bounds_by, bounds_in, ground_of, plain_naming}
 use Rattle.c_unit_laws.specs.Laws.{IsGoodProcedure, PrintedProceduresAreGood, BodiesAreGood}
 use Rattle.c_unit_laws.proofs.Forms.{lanes_in, Stands, Fits}
 use Rattle.c_unit_laws.proofs.Clear.{IsClear, AreClearParams, plain_is_clear, plain_params}
 use Rattle.c_unit_laws.proofs.Arguments.{AreWithin}
-use Rattle.c_unit_laws.proofs.Binders.{AreIn, ScopeIn, AreNamed, all_in, front_in, rear_in, params_in, apart_first, named_apart}
+use Rattle.c_unit_laws.proofs.Binders.{IsIn, AreIn, ScopeIn, AreNamed, all_in, front_in, rear_in, params_in, apart_first, named_apart}
 use Rattle.c_unit_laws.proofs.Blocks.{KnowsUnit, good_block}
 use Rattle.c_unit_laws.proofs.Params.{merged, none, merged_none, params_fit, params_apart, params_alike, good_params}
 use Rattle.c_unit_laws.proofs.Memories.{both_none, clear_params}
 use Rattle.c_unit_laws.proofs.ClearBlocks.{clear_block}
 use Rattle.c_unit_laws.proofs.Fields.{is_there, block_there}
-use Rattle.c_unit_laws.proofs.Names.{are_named}
+use Rattle.c_unit_laws.proofs.Names.{are_named, are_ordinary}
 use Rattle.c_unit_laws.proofs.Standing.{stood, formed_at, calls_before}
 use Rattle.c_unit_laws.proofs.Given.{given_within}
 use Rattle.c_unit_laws.proofs.Listed.{listed_at, narrow_at, used_at, stack_fits, few_names}
@@ -164,6 +165,10 @@ module _ (program : Program) (what : List Printing) (unit : IsUnit program) (low
 
     names_in : (naming : Naming) → naming.binder ≡ name_in (c_names (global_names program what) p) → naming.field ≡ named_field field_name program.fields → AreNamed (ground_of program what naming k p) (all_binders p)
     names_in naming b f = are_named program what p own.distinct lowers.named (few_names program what p own.distinct own.ids few_fields lowers.few) (ground_of program what naming k p) b f refl refl
+
+    -- no binder has a word of C for a name, or that of a function or a field
+    pub free_names : (b : Binder) → IsIn b (all_binders p) → (is_word ((naming_of program what p).binder b.id) ≡ false) × (is_in (global_names program what) ((naming_of program what p).binder b.id) ≡ false)
+    free_names b h = are_ordinary program what p own.distinct lowers.named (few_names program what p own.distinct own.ids few_fields lowers.few) (ground_of program what (naming_of program what p) k p) refl refl refl refl b h
 
     pub plain_naming_is : IsNaming (plain_naming program what p) kinds
     plain_naming_is = record {

@@ -18,11 +18,11 @@ use Rattle.c_machine.specs.Machine.{Outcome, Done, Fault, NoStore, Thing, Machin
 use Rattle.c_machine.specs.CRun.{Behaviour, behaviour, run_in_place, run_file}
 use Rattle.c_lowered.specs.LoweredUnit.{Printing, is_listed, counts, lowered}
 use Rattle.c_follows.specs.Simulation.{Ground, Follows, Layout}
-use Rattle.c_follows.specs.Bodies.{TemplatesDoTheirBodies}
+use Rattle.c_follows.specs.Templates.{TemplatesDoTheirBodies}
 use Rattle.c_follows.specs.Functions.{behaviour_of, AreSmall}
-use Rattle.c_follows.specs.Units.{AreLowered, IsSameStart, LeavesTheSame, EndsWell, declared_in, naming_of}
+use Rattle.c_follows.specs.Units.{AreLowered, IsSameStart, LeavesTheSame, EndsWell}
 use Rattle.c_follows.proofs.Functions.{functions_follow}
-use Rattle.c_unit_laws.specs.Grounds.{world_above, bounds_by, bounds_in, printed_ground}
+use Rattle.c_follows.specs.Grounds.{declared_in, naming_of, world_above, bounds_by, bounds_in, printed_ground}
 use Rattle.c_unit_laws.specs.Laws.{IsGoodProcedure, FilesFollow}
 use Rattle.c_unit_laws.proofs.Standing.{formed_at, table_count}
 use Rattle.c_unit_laws.proofs.Small.{small_params}
@@ -30,7 +30,8 @@ use Rattle.c_unit_laws.proofs.Fewer.{few_at}
 use Rattle.c_unit_laws.proofs.Functions.{field_global, function_global}
 use Rattle.c_unit_laws.proofs.Followed.{FewAt, HasCalls, follows_less}
 use Rattle.c_unit_laws.proofs.Units.{distinct, printed_procedures_are_good}
-use Rattle.c_unit_laws.proofs.Files.{listed_here, file_at, printed_there, calls_here}
+use Rattle.c_unit_laws.proofs.Listed.{listed_here}
+use Rattle.c_unit_laws.proofs.Files.{file_at, printed_there, calls_here}
 
 -- ---- how a run ends
 

@@ -1,2 +1,3 @@
 pub mod Add3
 pub mod FilledColumn
+pub mod SharedArray

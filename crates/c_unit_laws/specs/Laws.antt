@@ -9,8 +9,10 @@ use Rattle.c_lowered.specs.Lowered.{param_forms}
 use Rattle.c_lowered.specs.LoweredUnit.{Printing, is_listed, counts}
 use Rattle.c_follows.specs.Simulation.{Ground}
 use Rattle.c_follows.specs.Good.{IsGoodBlock, MayStore, AreGoodParams, AreNamedApart}
+use Rattle.c_follows.specs.Bodies.{bodies_of}
+use Rattle.c_follows.specs.Templates.{TemplatesDoTheirBodies}
 use Rattle.c_follows.specs.Units.{AreLowered, UnitsFollow}
-use Rattle.c_unit_laws.specs.Grounds.{world_above, bounds_in, printed_ground, plain_ground}
+use Rattle.c_follows.specs.Grounds.{world_above, bounds_in, printed_ground, plain_ground}
 
 -- What the laws on functions and blocks ask of a procedure and its names in the C.
 pub record IsGoodProcedure (g : Ground) (most : ℕ → ℕ) (world : World)
@@ -42,6 +44,14 @@ BodiesAreGood =
     → counts program what k ≡ true
     → IsGoodProcedure (plain_ground program what k p) (bounds_in program what k)
     (world_above program k) p
+
+-- The bodies of instructions are templates that do what their bodies say.
+abbrev pub BodiesAreTemplates : Type 0
+BodiesAreTemplates =
+    (program : Program) (what : List Printing)
+    → IsUnit program
+    → AreLowered fault_of program what
+    → TemplatesDoTheirBodies program what (slice_get (bodies_of program what))
 
 -- From the same valid input a call of a function of the file ends well where its procedure does
 -- not fault: it does not fault, leaves the same where it is done, and is done where no allocation

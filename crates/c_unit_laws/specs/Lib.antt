@@ -1,9 +1,10 @@
-pub mod Grounds
 pub mod Laws
+pub mod FreeNames
 pub mod Stores
 pub mod Listings
 pub mod Instance
 pub mod Runs
+pub mod StrictTemplates
 pub mod ColumnRun
 pub mod Undeclared
 pub mod ClosedRuns

@@ -12,7 +12,8 @@ use Rattle.c_machine.specs.CRun.{Behaviour, run_file}
 use Rattle.c_lowered.specs.LoweredUnit.{lowered}
 use Rattle.c_lowered.specs.Examples.{copy8, vector_program}
 use Rattle.c_follows.specs.Simulation.{Layout}
-use Rattle.c_follows.specs.Bodies.{bodies_of, TemplatesDoTheirBodies}
+use Rattle.c_follows.specs.Bodies.{bodies_of}
+use Rattle.c_follows.specs.Templates.{TemplatesDoTheirBodies}
 use Rattle.c_follows.specs.Units.{IsSameStart}
 use Rattle.c_unit_laws.specs.Instance.{copy_printed}
 

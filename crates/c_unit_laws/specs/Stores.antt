@@ -11,8 +11,9 @@ use Rattle.c_machine.specs.Machine.{Done, Thing, Machine}
 use Rattle.c_machine.specs.CRun.{Behaviour, run_file}
 use Rattle.c_lowered.specs.LoweredUnit.{Printing, lowered}
 use Rattle.c_follows.specs.Simulation.{Layout}
-use Rattle.c_follows.specs.Bodies.{TemplatesDoTheirBodies}
-use Rattle.c_follows.specs.Units.{AreLowered, IsSameStart, LeavesTheSame, declared_in, naming_of}
+use Rattle.c_follows.specs.Templates.{TemplatesDoTheirBodies}
+use Rattle.c_follows.specs.Grounds.{declared_in, naming_of}
+use Rattle.c_follows.specs.Units.{AreLowered, IsSameStart, LeavesTheSame}
 
 abbrev mutual
   pub allocates : Block → Bool

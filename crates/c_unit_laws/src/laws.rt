@@ -1,10 +1,13 @@
 //! Laws of the C of units, each the contract of a function with nothing to do.
 
-ghost use Rattle.c_unit_laws.specs.Laws.{PrintedProceduresAreGood, BodiesAreGood, FilesFollow};
+ghost use Rattle.c_unit_laws.specs.Laws.{PrintedProceduresAreGood, BodiesAreGood};
+ghost use Rattle.c_unit_laws.specs.Laws.{BodiesAreTemplates, FilesFollow};
+ghost use Rattle.c_unit_laws.specs.FreeNames.{PrintedNamesAreFree, NamedStructsArePrinted};
 ghost use Rattle.c_unit_laws.specs.Listings.{PrintingsAreListings, EmittedArePrinted};
 ghost use Rattle.c_unit_laws.specs.Stores.{FilesWithoutAllocationsAreDone};
 ghost use Rattle.c_unit_laws.specs.Instance.{ColumnsHaveC, VectorsHaveC};
 ghost use Rattle.c_unit_laws.specs.Runs.{VectorsRun};
+ghost use Rattle.c_unit_laws.specs.StrictTemplates.{StrictTemplatesRun};
 ghost use Rattle.c_unit_laws.specs.ColumnRun.{ColumnsRun, PrintingsAreComputed};
 
 /// Each printed procedure of a unit that has a C meets what the laws on functions and blocks ask.
@@ -16,6 +19,21 @@ pub fn printed_procedures_are_good()
 /// in place.
 pub fn bodies_are_good()
     ensures { BodiesAreGood }
+{}
+
+/// The bodies of instructions are templates that do what their bodies say.
+pub fn bodies_are_templates()
+    ensures { BodiesAreTemplates }
+{}
+
+/// No name that is printed is a word of C, and none hides another.
+pub fn printed_names_are_free()
+    ensures { PrintedNamesAreFree }
+{}
+
+/// Each struct that a function names is printed.
+pub fn named_structs_are_printed()
+    ensures { NamedStructsArePrinted }
 {}
 
 /// A call of a function of a file does what its procedure does.
@@ -51,6 +69,12 @@ pub fn vectors_have_c()
 /// A call of a function that copies by instructions meets what the law on files asks, and is done.
 pub fn vectors_run()
     ensures { VectorsRun }
+{}
+
+/// Templates need not be their bodies: with ones that fault where a window is not dense the same
+/// call is done.
+pub fn strict_templates_run()
+    ensures { StrictTemplatesRun }
 {}
 
 /// A call of a function that hands on a column meets what the laws on files ask, and is done.

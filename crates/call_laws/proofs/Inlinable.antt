@@ -117,7 +117,7 @@ module _ (to : ℕ → ℕ) where
 
 -- a made buffer is a binder
 mutual
-  made_binder : (b : Block) (x : ℕ) → makes b x ≡ true → has_binder b x ≡ true
+  pub made_binder : (b : Block) (x : ℕ) → makes b x ≡ true → has_binder b x ≡ true
   made_binder end x h = h
   made_binder (next a b) x h =
       or_elim (step_makes a x) (makes b x) h
@@ -179,7 +179,7 @@ inlined_binders (p ∷ ps) (a ∷ args) b x =
 
 -- ---- what follows
 
-hole_binder : (c : Context) (b : Block) (x : ℕ) → has_binder (fill c b) x ≡ false
+pub hole_binder : (c : Context) (b : Block) (x : ℕ) → has_binder (fill c b) x ≡ false
     → has_binder (joined b (rest_of c)) x ≡ false
 hole_binder (Here rest) b x h = h
 hole_binder (After a c) b x h =
@@ -194,7 +194,7 @@ hole_binder (InElse t other c rest) b x h =
     let p = or_parts (has_binder other x || has_binder (fill c b) x) (has_binder rest x) h in
     hole_binder c b x (or_parts (has_binder other x) (has_binder (fill c b) x) p.0).1
 
-in_rest : (hidden : ℕ → Bool) (a rest : Block) → mentions hidden (joined a rest) ≡ false
+pub in_rest : (hidden : ℕ → Bool) (a rest : Block) → mentions hidden (joined a rest) ≡ false
     → mentions hidden rest ≡ false
 in_rest hidden end rest h = h
 in_rest hidden (next s a) rest h =

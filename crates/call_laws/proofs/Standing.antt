@@ -33,7 +33,7 @@ module _ (fields : ℕ → Option Kind) (kinds : ℕ → Kind) (scope : Scope) (
   one (WindowParam cell dims memory) (GivenView z) h k =
       let b = there_is (s.scene.buffers z.buffer) k in (b.0, b.1, h b.0 b.1)
 
-  all : (ps : List Param) (gs : List Given) → AllMatch fields kinds scope s sorted ps gs
+  pub all : (ps : List Param) (gs : List Given) → AllMatch fields kinds scope s sorted ps gs
       → AreThere s gs → HaveTypes s (map (renumbered_param to) ps) gs
   all [] gs h k = tt
   all (p ∷ ps) [] h k = tt

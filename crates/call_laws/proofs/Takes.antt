@@ -3,13 +3,14 @@ use Rattle.std.proofs.Common.{◌≡◌, ◌≤◌, ℕ, ◌==◌, Bool, true, f
 use Rattle.std.proofs.Common.{List, [], ◌∷◌, length, map, Option, refl, sym, ap, ap₂, ◌∙◌, eqb-true, eq-eqb}
 use Rattle.std.specs.Prelude.{slice_get}
 use Rattle.std.specs.List.{list_all}
+use Rattle.exo_tree.specs.Tree.{Control, Lit, Var, Field, StrideOf, Neg, Add, Sub, Mul, Div, Mod}
 use Rattle.exo_tree.specs.Tree.{Cell, Kind, Coord, Argument, ControlArg, ConditionArg, Whole, Window}
 use Rattle.exo_tree.specs.Tree.{Condition, True, False, Flag, FieldFlag, Lt, Le, Gt, Ge, Eq, And, Or}
 use Rattle.exo_tree.specs.Tree.{ParamKind, ControlParam, TensorParam, WindowParam, Param, Block, Procedure}
 use Rattle.exo_tree.specs.Renaming.{fresh_id, renaming}
 use Rattle.exo_meaning.specs.Inputs.{is_buffer_of}
 use Rattle.exo_meaning.specs.Renaming.{Renaming}
-use Rattle.exo_meaning.specs.Unseen.{in_coords, in_argument, in_arguments}
+use Rattle.exo_meaning.specs.Unseen.{in_control, in_condition, in_coords, in_argument, in_arguments}
 use Rattle.exo_meaning.specs.Units.{Scope, sort_in, has_cell, has_rank, is_truth, with_both, is_control}
 use Rattle.exo_meaning.specs.Units.{is_coord, is_window, is_for_tensor, is_for_window, is_for, are_for, field_kind, IsProcedure}
 use Rattle.exo_meaning.specs.Calls.{Callee}
@@ -24,14 +25,15 @@ use Rattle.meaning_laws.proofs.Substitute.{and_parts}
 use Rattle.inplace_laws.specs.Inline.{is_view, TakesWindow, Takes, TakesAll, with_argument}
 use Rattle.inplace_laws.specs.SteadyFlags.{is_steady_condition, condition_has_stride}
 use Rattle.inplace_laws.specs.Windows.{coords_of, are_plain}
-use Rattle.inplace_laws.proofs.Steady.{plain_is_steady, plain_has_none}
+use Rattle.inplace_laws.specs.Steady.{has_stride}
+use Rattle.inplace_laws.proofs.Steady.{plain_is_steady}
 use Rattle.match_laws.specs.Inline.FreshCallee.{ids_of}
 use Rattle.match_laws.specs.Inline.InlineRule.{is_plain_argument, are_plain_arguments, renumbered_kind, renumbered_param}
 use Rattle.match_laws.specs.Inline.InlineRule.{with_fresh_ids}
 use Rattle.step_rules.specs.Lawful.{around, scope_here}
 use Rattle.call_laws.specs.Names.Scopes.{bound_at}
 use Rattle.call_laws.specs.Fresh.{IsRenamed}
-use Rattle.call_laws.specs.Takes.{CallsTake}
+use Rattle.call_laws.specs.Takes.{is_steady_argument, are_steady, CallsTake}
 use Rattle.call_laws.proofs.Callees.{callee_keeps_rules}
 use Rattle.call_laws.proofs.Caught.{IsUncaught, KindUncaught, AreUncaught, none_of, caught_mapped, put_uncaught}
 use Rattle.call_laws.proofs.Caught.{any_uncaught, no_flag_used, params_uncaught}
@@ -70,33 +72,60 @@ condition_is_steady (Or c d) p =
     let q = and_parts (is_plain_condition c) (is_plain_condition d) p in
     ap₂ ◌&&◌ (condition_is_steady c q.0) (condition_is_steady d q.1)
 
-condition_has_none : (c : Condition) (y : ℕ) → is_plain_condition c ≡ true
-    → condition_has_stride c y ≡ false
-condition_has_none True y p = refl
-condition_has_none False y p = refl
-condition_has_none (Flag x) y p = refl
-condition_has_none (FieldFlag f) y p = refl
-condition_has_none (Lt a b) y p =
-    let q = and_parts (is_plain a) (is_plain b) p in
-    ap₂ ◌||◌ (plain_has_none a y q.0) (plain_has_none b y q.1)
-condition_has_none (Le a b) y p =
-    let q = and_parts (is_plain a) (is_plain b) p in
-    ap₂ ◌||◌ (plain_has_none a y q.0) (plain_has_none b y q.1)
-condition_has_none (Gt a b) y p =
-    let q = and_parts (is_plain a) (is_plain b) p in
-    ap₂ ◌||◌ (plain_has_none a y q.0) (plain_has_none b y q.1)
-condition_has_none (Ge a b) y p =
-    let q = and_parts (is_plain a) (is_plain b) p in
-    ap₂ ◌||◌ (plain_has_none a y q.0) (plain_has_none b y q.1)
-condition_has_none (Eq a b) y p =
-    let q = and_parts (is_plain a) (is_plain b) p in
-    ap₂ ◌||◌ (plain_has_none a y q.0) (plain_has_none b y q.1)
-condition_has_none (And c d) y p =
-    let q = and_parts (is_plain_condition c) (is_plain_condition d) p in
-    ap₂ ◌||◌ (condition_has_none c y q.0) (condition_has_none d y q.1)
-condition_has_none (Or c d) y p =
-    let q = and_parts (is_plain_condition c) (is_plain_condition d) p in
-    ap₂ ◌||◌ (condition_has_none c y q.0) (condition_has_none d y q.1)
+argument_is_steady : (a : Argument) → is_plain_argument a ≡ true → is_steady_argument a ≡ true
+argument_is_steady (ControlArg e) h = plain_is_steady e h
+argument_is_steady (ConditionArg c) h = condition_is_steady c h
+argument_is_steady (Whole x) h = refl
+argument_is_steady (Window x cs) h = refl
+
+all_are_steady : (args : List Argument) → are_plain_arguments args ≡ true → are_steady args ≡ true
+all_are_steady [] h = refl
+all_are_steady (a ∷ args) h =
+    let q = and_parts (is_plain_argument a) (are_plain_arguments args) h in
+    ap₂ ◌&&◌ (argument_is_steady a q.0) (all_are_steady args q.1)
+
+-- ---- names whose strides are used
+
+module _ (hidden : ℕ → Bool) (y : ℕ) where
+  two_strides : (a b : Control) → (in_control hidden a || in_control hidden b) ≡ false
+      → (has_stride a y || has_stride b y) ≡ true
+      → (in_control hidden a ≡ false → has_stride a y ≡ true → hidden y ≡ false)
+      → (in_control hidden b ≡ false → has_stride b y ≡ true → hidden y ≡ false) → hidden y ≡ false
+  two_strides a b h k f g =
+      let p = or_parts (in_control hidden a) (in_control hidden b) h in
+      or_elim (has_stride a y) (has_stride b y) {P = hidden y ≡ false} k (f p.0) (g p.1)
+
+  stride_open : (e : Control) → in_control hidden e ≡ false → has_stride e y ≡ true → hidden y ≡ false
+  stride_open (Lit n) h k = absurd (true≢false (sym k))
+  stride_open (Var x) h k = absurd (true≢false (sym k))
+  stride_open (Field f) h k = absurd (true≢false (sym k))
+  stride_open (StrideOf x n) h k = ap hidden (eqb-true y x k) ∙ h
+  stride_open (Neg a) h k = stride_open a h k
+  stride_open (Add a b) h k = two_strides a b h k (stride_open a) (stride_open b)
+  stride_open (Sub a b) h k = two_strides a b h k (stride_open a) (stride_open b)
+  stride_open (Mul a b) h k = two_strides a b h k (stride_open a) (stride_open b)
+  stride_open (Div a c) h k = stride_open a h k
+  stride_open (Mod a c) h k = stride_open a h k
+
+  condition_stride_open : (c : Condition) → in_condition hidden c ≡ false
+      → condition_has_stride c y ≡ true → hidden y ≡ false
+  condition_stride_open True h k = absurd (true≢false (sym k))
+  condition_stride_open False h k = absurd (true≢false (sym k))
+  condition_stride_open (Flag x) h k = absurd (true≢false (sym k))
+  condition_stride_open (FieldFlag f) h k = absurd (true≢false (sym k))
+  condition_stride_open (Lt a b) h k = two_strides a b h k (stride_open a) (stride_open b)
+  condition_stride_open (Le a b) h k = two_strides a b h k (stride_open a) (stride_open b)
+  condition_stride_open (Gt a b) h k = two_strides a b h k (stride_open a) (stride_open b)
+  condition_stride_open (Ge a b) h k = two_strides a b h k (stride_open a) (stride_open b)
+  condition_stride_open (Eq a b) h k = two_strides a b h k (stride_open a) (stride_open b)
+  condition_stride_open (And c d) h k =
+      let p = or_parts (in_condition hidden c) (in_condition hidden d) h in
+      or_elim (condition_has_stride c y) (condition_has_stride d y) {P = hidden y ≡ false} k
+      (condition_stride_open c p.0) (condition_stride_open d p.1)
+  condition_stride_open (Or c d) h k =
+      let p = or_parts (in_condition hidden c) (in_condition hidden d) h in
+      or_elim (condition_has_stride c y) (condition_has_stride d y) {P = hidden y ≡ false} k
+      (condition_stride_open c p.0) (condition_stride_open d p.1)
 
 -- ---- what is given for a buffer
 
@@ -161,30 +190,36 @@ module _ (params bound : ℕ → Bool) (apart_from : (x : ℕ) → bound x ≡ t
       )
 
   one_taken : (x : ℕ) (kind : ParamKind) (a : Argument) (b : Block)
-      → is_for fields scope kind a ≡ true → is_plain_argument a ≡ true
+      → is_for fields scope kind a ≡ true → is_steady_argument a ≡ true
       → in_argument (is_not bound) a ≡ false → has_binder b x ≡ false → IsOutside b
       → KindUncaught kind x b → Takes params x (renumbered_kind to kind) a b
   one_taken x (ControlParam kind) (ControlArg e) b fits plain said own outside uncaught = (
-    plain_is_steady e plain,
+    plain,
     any_uncaught x e b
         (uncaught (not_true (is_truth kind)
         (and_parts (not (is_truth kind)) (is_control fields with_both scope e) fits).0))
         (λ y k. not_if (has_variable e y) (λ h. true≢false (sym k ∙ outside y (used y h)))),
     λ y h. apart_from y (used y h),
-    λ y h. absurd (true≢false (sym h ∙ plain_has_none e y plain)),
+    λ y h. (apart_from y (strided y h), outside y (strided y h)),
   )
     where
       used : (y : ℕ) → has_variable e y ≡ true → bound y ≡ true
       used y h = not_false (bound y) (control_open (is_not bound) y e said h)
+
+      strided : (y : ℕ) → has_stride e y ≡ true → bound y ≡ true
+      strided y h = not_false (bound y) (stride_open (is_not bound) y e said h)
   one_taken x (ControlParam kind) (ConditionArg c) b fits plain said own outside uncaught = (
-    condition_is_steady c plain,
+    plain,
     own,
     λ y h. (apart_from y (used y h), outside y (used y h)),
-    λ y h. absurd (true≢false (sym h ∙ condition_has_none c y plain)),
+    λ y h. (apart_from y (strided y h), outside y (strided y h)),
   )
     where
       used : (y : ℕ) → condition_has c y ≡ true → bound y ≡ true
       used y h = not_false (bound y) (condition_open (is_not bound) y c said h)
+
+      strided : (y : ℕ) → condition_has_stride c y ≡ true → bound y ≡ true
+      strided y h = not_false (bound y) (condition_stride_open (is_not bound) y c said h)
   one_taken x (ControlParam kind) (Whole y) b fits plain said own outside uncaught =
       true≢false (sym fits)
   one_taken x (ControlParam kind) (Window y cs) b fits plain said own outside uncaught =
@@ -213,8 +248,8 @@ module _ (params bound : ℕ → Bool) (apart_from : (x : ℕ) → bound x ≡ t
           all_kept ps (λ y k. new y (or_right (y == i) (is_buffer_of y ps) k)) h.1,
         )
 
-  all_taken : (ps : List Param) (args : List Argument) (b : Block)
-      → are_for fields scope ps args ≡ true → are_plain_arguments args ≡ true
+  pub all_taken : (ps : List Param) (args : List Argument) (b : Block)
+      → are_for fields scope ps args ≡ true → are_steady args ≡ true
       → in_arguments (is_not bound) args ≡ false
       → ((y : ℕ) → is_buffer_of y ps ≡ true → bound (to y) ≡ false)
       → ((y : ℕ) → is_buffer_of y ps ≡ true → has_binder b (to y) ≡ false)
@@ -226,7 +261,7 @@ module _ (params bound : ℕ → Bool) (apart_from : (x : ℕ) → bound x ≡ t
       let i = p.binder.id in
       let kind = renumbered_kind to p.kind in
       let f = and_parts (is_for fields scope p.kind a) (are_for fields scope ps args) fit in
-      let g = and_parts (is_plain_argument a) (are_plain_arguments args) plain in
+      let g = and_parts (is_steady_argument a) (are_steady args) plain in
       let h = or_parts (in_argument (is_not bound) a) (in_arguments (is_not bound) args) said in
       let later = λ (y : ℕ) (k : is_buffer_of y ps ≡ true). or_right (y == i) (is_buffer_of y ps) k in (
         one_taken (to i) p.kind a b f.0 g.0 h.0
@@ -280,7 +315,7 @@ calls_take s base c q is below called there plain =
     all_taken (is_param fresh) bound
     (λ x h. not_if (is_param fresh x) (λ e. true≢false (sym h ∙ late x (new_params base q x e))))
     fields (scope_here s) to q.params c.args fresh.body
-    (args_for s c q is called there) plain (args_bound s c q is called there)
+    (args_for s c q is called there) (all_are_steady c.args plain) (args_bound s c q is called there)
     (λ y h. late (to y) (new_params base q (to y) (param_forth to q.params y h)))
     (λ y h. not_if (has_binder fresh.body (to y))
     (λ e. apart fields memories callees base q ok (to y) (param_forth to q.params y h) e))

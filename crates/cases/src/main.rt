@@ -21,7 +21,7 @@ use crate::case::Case;
 use crate::changes::Sweep;
 use crate::run::has_left;
 use exo_cli::{DiskFiles, Files};
-use std::alloc::{AllocError, Global};
+use std::alloc::AllocError;
 use std::io;
 use std::thread::Threads;
 

@@ -61,7 +61,7 @@ fn copied(alloc: Global, dims: &[Ctrl]) -> Result<Indices, AllocError>
 
 /// For each name of a procedure that stands for a buffer or a view, its extents from the outermost dimension on.
 #[derive(Drop)]
-pub(crate) struct Extents {
+pub struct Extents {
     pub(crate) table: IndexMap<u32, Indices>,
 }
 
@@ -75,7 +75,7 @@ impl Extents {
     }
 
     /// The extents of a name; none where it stands for no buffer.
-    pub(crate) fn get(&self, x: Id) -> &[Ctrl]
+    pub fn get(&self, x: Id) -> &[Ctrl]
         ensures { map control result.now ≡ extents_in self.now x.0 }
     {
         match self.table.get(&x.0) {
@@ -134,7 +134,7 @@ impl Extents {
     }
 
     /// The extents of a procedure's names. Each binder is looked at once.
-    pub(crate) fn of(alloc: Global, p: &Proc) -> Result<Extents, AllocError>
+    pub fn of(alloc: Global, p: &Proc) -> Result<Extents, AllocError>
         ensures { IfOk result (λ e. extents_in e ≡ extents_of (procedure p.now)) }
     {
         let mut extents = Extents::new(alloc);

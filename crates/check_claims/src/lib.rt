@@ -10,4 +10,5 @@ mod list;
 mod walk;
 
 pub use claim::{Claim, Placed};
+pub use extents::Extents;
 pub use walk::claims_of;

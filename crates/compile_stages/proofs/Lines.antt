@@ -1,5 +1,5 @@
--- What holds behind the lines of a schedule: no version differs in a field from one of which it was
--- made, and names hold versions that are there.
+-- What holds behind the lines of a schedule: names hold versions that are there, and all versions have
+-- names of the grammar.
 use Rattle.std.proofs.Common.{◌≡◌, ◌<◌, ◌+◌, ℕ, zero, suc, List, [], ◌∷◌, map, length, Option, Some, None, refl}
 use Rattle.std.proofs.Common.{sym, ap, ◌∙◌, subst, arith, get_or, option_map, IfSome, MatchOption}
 use Rattle.exo_tree.specs.Tree.{Program}
@@ -11,8 +11,8 @@ use Rattle.schedule_calls.specs.Readings.{Asks}
 use Rattle.schedule_laws.specs.Versions.Versions.{Versions, started, version_of}
 use Rattle.schedule_laws.specs.Versions.Lines.{Why, UnknownOperator, BadArguments, Act, Faulty, Progress, Went}
 use Rattle.schedule_laws.specs.Versions.Lines.{Refused, performed, Outcome, Done, Stopped, behind, run_from}
-use Rattle.schedule_laws.specs.Versions.Behind.{NothingDiffers, RunsHoldVersions}
-use Rattle.schedule_run.specs.Operators.{act_of, SchedulesDifferInNothing}
+use Rattle.schedule_laws.specs.Versions.Behind.{RunsHoldVersions}
+use Rattle.schedule_laws.specs.Operators.Operators.{act_of}
 use Rattle.schedule_laws.specs.Names.Schedules.{GivesNames, LinesGiveNames, SchedulesKeepNames}
 use Rattle.cursor_forward.specs.PlainProposal.{cause_of}
 use Rattle.schedule_text.specs.Views.{plain_line, number}
@@ -69,12 +69,6 @@ requested_from k (line ∷ more) v w end (goes _ _ _ _ u a _ is went rest) e =
     }
     by_act _ (unknown _ h) went later = absurd (refused_went went)
     by_act _ (bad _ h none) went later = absurd (refused_went went)
-
-pub runs_leave_fields : SchedulesDifferInNothing → (unit : Program) (shown : ℕ) (lines : List tree.Line)
-    (w : Versions) → LinesRun 0 lines (started unit shown) (Done w) → NothingDiffers w
-runs_leave_fields law unit shown lines w runs =
-    let r = requested_from 0 lines (started unit shown) w (Done w) runs refl in
-    law unit shown r.requests w r.ran
 
 pub runs_hold : RunsHoldVersions → (unit : Program) (shown : ℕ) (lines : List tree.Line) (w : Versions)
     (name : List ℕ) (k : ℕ) → LinesRun 0 lines (started unit shown) (Done w)

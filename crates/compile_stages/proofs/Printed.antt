@@ -18,12 +18,12 @@ use Rattle.c_machine.specs.Machine.{Outcome, Done, Thing, Machine}
 use Rattle.c_lowered.specs.Lowered.{Naming}
 use Rattle.c_lowered.specs.LoweredUnit.{Printing, is_listed, name_of}
 use Rattle.c_follows.specs.Simulation.{Declared, Layout}
-use Rattle.c_follows.specs.Units.{AreLowered, LeavesTheSame, EndsWell, naming_of, declared_in}
+use Rattle.c_follows.specs.Grounds.{naming_of, declared_in}
+use Rattle.c_follows.specs.Units.{AreLowered, LeavesTheSame, EndsWell}
 use Rattle.c_unit_laws.specs.Laws.{FilesFollow}
 use Rattle.c_unit_laws.specs.Stores.{FilesWithoutAllocationsAreDone}
 use Rattle.unit_check.specs.Faults.{NothingFaults}
 use Rattle.schedule_laws.specs.Versions.Versions.{Versions, version_at}
-use Rattle.schedule_laws.specs.Versions.Behind.{NothingDiffers}
 use Rattle.schedule_run.specs.Roots.{root_of}
 use Rattle.schedule_run.specs.Laws.{AreVersionsOf, IsVersionOf, AreKept}
 use Rattle.compile_stages.specs.Printings.{differing_from, printing_of, printings_of}
@@ -175,7 +175,7 @@ pub record FileLaws : Type 0 where
   pub done : FilesWithoutAllocationsAreDone
 
 module _ (text : Program) (v : Versions) (formed : IsUnit text) (safe : NothingFaults text)
-    (kept : AreKept text v) (bare : NothingDiffers v) (laws : FileLaws) (undeclared : UndeclaredFieldsStay)
+    (kept : AreKept text v) (laws : FileLaws) (undeclared : UndeclaredFieldsStay)
     (lowers : AreLowered fault_of v.unit (printings_of v)) where
   abbrev what : List Printing
   what = printings_of v
@@ -226,7 +226,6 @@ module _ (text : Program) (v : Versions) (formed : IsUnit text) (safe : NothingF
         comes = c;
         origin_named = ap (λ (z : Printing). z.origin) own ∙ ap name_of c.first;
         fields = fields;
-        nothing_differs = fields ∙ bare w.proc c.from;
         kept =
             subst (λ but. DoesWhat text v.unit what at w.proc but (origin_of text v kept w.proc q there.1) q)
             (sym fields) (version_does at w q here there.1 (origin_of text v kept w.proc q there.1) c);

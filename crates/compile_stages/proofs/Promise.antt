@@ -33,8 +33,7 @@ use Rattle.schedule_laws.specs.Versions.Versions.{Versions, started, version_at,
 use Rattle.schedule_laws.specs.Versions.Lines.{Outcome, Done}
 use Rattle.schedule_laws.specs.Versions.Lines as lines
 use Rattle.schedule_laws.specs.Versions.Laws.{HasRoom}
-use Rattle.schedule_laws.specs.Versions.Behind.{NothingDiffers, RunsHoldVersions}
-use Rattle.schedule_run.specs.Operators.{SchedulesDifferInNothing}
+use Rattle.schedule_laws.specs.Versions.Behind.{RunsHoldVersions}
 use Rattle.schedule_run.specs.Runs.{LinesRun}
 use Rattle.schedule_run.specs.Laws.{SchedulesKeep, SmallUnitsHaveRoom, AreKept}
 use Rattle.compile_stages.specs.Printings.{printing_of, is_emitted, printings_of, or_later, memory_fault}
@@ -54,14 +53,13 @@ use Rattle.compile_stages.proofs.Running.{led, passed_then, passed_is, stopped_i
 use Rattle.compile_stages.proofs.Typing.{Formed, typed_is_formed, all_shown}
 use Rattle.compile_stages.proofs.Listing.{nothing_there, some_is, few_printings}
 use Rattle.compile_stages.proofs.Printed.{FileLaws, at_place, origin_of, comes_from, each_printed}
-use Rattle.compile_stages.proofs.Lines.{runs_leave_fields, runs_hold, runs_keep_names}
+use Rattle.compile_stages.proofs.Lines.{runs_hold, runs_keep_names}
 
 -- the laws of lower crates on which all that is promised rests
 pub record LawsBelow : Type 0 where
   pub safe : CheckedUnitsDoNotFault
   pub keeps : SchedulesKeep
   pub room : SmallUnitsHaveRoom
-  pub bare : SchedulesDifferInNothing
   pub hold : RunsHoldVersions
 
 -- ---- what the last stages ask
@@ -147,7 +145,6 @@ record Known (laws : LawsBelow) (source schedule : List ℕ) (v : Versions) : Ty
   pub formed : Formed source typed
   pub made : AreMade source schedule formed.items v
   pub kept : AreKept (unit_of formed.items) v
-  pub bare : NothingDiffers v
 
 known : (laws : LawsBelow) (source schedule : List ℕ) (v : Versions)
     → Schedules source schedule (Passed v) → Known laws source schedule v
@@ -186,7 +183,6 @@ known laws source schedule v h =
         none_faults = kept.derived.quiet;
       };
       kept = kept;
-      bare = runs_leave_fields laws.bare text count s.lines v ran;
     }
 
 -- ---- compiled
@@ -220,7 +216,7 @@ compiled_is_promised laws files listings undeclared source schedule out h =
       narrow = is.narrow;
       named = is.named;
       text = is.text;
-      each = each_printed text v k.formed.formed k.made.no_fault k.kept k.bare files undeclared lowers;
+      each = each_printed text v k.formed.formed k.made.no_fault k.kept files undeclared lowers;
     }
 
 -- ---- displayed

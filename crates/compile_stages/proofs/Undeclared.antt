@@ -16,7 +16,7 @@ use Rattle.meaning_laws.specs.UnitFields.{written_at, written_by, all_written, u
 use Rattle.exo_calls.proofs.Reach.{seeds_are_closed, closed_is_closed}
 use Rattle.c_lowered.specs.LoweredUnit.{Printing, in_condition, in_argument, in_arguments, in_statement}
 use Rattle.c_lowered.specs.LoweredUnit.{in_block, in_conditions, is_listed, counts, is_used}
-use Rattle.c_follows.specs.Units.{declared_in}
+use Rattle.c_follows.specs.Grounds.{declared_in}
 use Rattle.compile_stages.specs.Undeclared.{UndeclaredFieldsStay}
 use Rattle.c_unit_laws.proofs.Fields.{is_there, block_there}
 use Rattle.c_unit_laws.proofs.Standing.{some_same, formed_at, calls_before}

@@ -1,23 +1,18 @@
 -- What is printed: the versions that are emitted and the functions that they call.
-use Rattle.std.specs.Prelude.{ℕ, ◌==◌, ◌||◌, Bool, false, List, [], ◌∷◌, map}
+use Rattle.std.specs.Prelude.{ℕ, ◌==◌, ◌||◌, Bool, false, List, [], ◌∷◌}
 use Rattle.std.specs.Prelude.{Option, Some, None}
 use Rattle.exo_tree.specs.Tree.{Program}
-use Rattle.config_laws.specs.Differing.{Origin, differing}
+use Rattle.config_laws.specs.Differing.{differing}
 use Rattle.memory_kinds.specs.Faults.{fault_of}
 use Rattle.memory_kinds.specs.declared.error.KindError.{KindError}
 use Rattle.c_lowered.specs.LoweredUnit.{Printing, name_of}
 use Rattle.c_unit_laws.specs.Listings.{printings}
-use Rattle.schedule_laws.specs.Versions.Versions.{Versions, version_at, configured}
+use Rattle.schedule_laws.specs.Versions.Versions.{Versions, version_at}
 use Rattle.schedule_run.specs.Roots.{root_of}
-
--- ---- origins
-
-abbrev pub origins_of : Versions → List Origin
-origins_of v = map configured v.origins
 
 -- the fields in which a version may differ from another one of which it was made
 abbrev pub differing_from : Versions → ℕ → ℕ → List ℕ
-differing_from v k from = differing v.unit (origins_of v) k from
+differing_from v k from = differing v.unit v.origins k from
 
 -- ---- what is printed
 

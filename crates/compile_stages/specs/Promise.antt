@@ -25,15 +25,16 @@ use Rattle.c_lowered.specs.Lowered.{Naming}
 use Rattle.c_lowered.specs.LoweredUnit.{Printing, lowered}
 use Rattle.c_printer.specs.Refusals.{too_wide, name_clash}
 use Rattle.c_follows.specs.Simulation.{Declared, Layout, IsOutside, in_range, spot_of}
-use Rattle.c_follows.specs.Bodies.{TemplatesDoTheirBodies}
-use Rattle.c_follows.specs.Units.{naming_of, declared_in, IsListing, IsSameStart, EndsWell}
+use Rattle.c_follows.specs.Templates.{TemplatesDoTheirBodies}
+use Rattle.c_follows.specs.Grounds.{naming_of, declared_in}
+use Rattle.c_follows.specs.Units.{IsListing, IsSameStart, EndsWell}
 use Rattle.c_unit_laws.specs.Stores.{allocates_nothing}
 use Rattle.schedule_text.specs.Tree as tree
 use Rattle.schedule_text.specs.Grammar.{schedule as schedule_text}
 use Rattle.schedule_laws.specs.Versions.Versions.{Versions, started, version_at}
 use Rattle.schedule_laws.specs.Versions.Lines.{Done as Ran}
 use Rattle.schedule_run.specs.Runs.{LinesRun}
-use Rattle.compile_stages.specs.Printings.{origins_of, differing_from, printings_of}
+use Rattle.compile_stages.specs.Printings.{differing_from, printings_of}
 use Rattle.compile_stages.specs.Printings.{memory_fault}
 
 -- ---- versions
@@ -62,7 +63,7 @@ pub record ComesFrom (text : Program) (v : Versions) (k : ℕ) (p q : Procedure)
   pub in_text : slice_get text.procedures from ≡ Some p
   pub first : version_at v from ≡ Some p
   pub there : version_at v k ≡ Some q
-  pub derives : is_descendant (origins_of v) k from ≡ true
+  pub derives : is_descendant v.origins k from ≡ true
   pub head : HasHead p q
   pub refines : Refines (program_world v.unit) p q (differing_from v k from)
 
@@ -132,8 +133,6 @@ pub record IsPrinted (text : Program) (v : Versions) (what : List Printing) (at 
   pub comes : ComesFrom text v w.proc origin version
   pub origin_named : w.origin ≡ origin.name
   pub fields : w.fields ≡ differing_from v w.proc comes.from
-  -- no operator that is built leaves a field that may differ
-  pub nothing_differs : w.fields ≡ []
   pub kept : DoesWhat text v.unit what at w.proc w.fields origin version
 
 -- What stands behind the C that is printed for a unit and a schedule: the versions that are

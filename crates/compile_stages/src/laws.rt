@@ -19,7 +19,6 @@ pub fn compiled_is_promised()
     unit_check::laws::checked_units_do_not_fault();
     schedule_run::laws::schedules_keep();
     schedule_run::laws::small_units_have_room();
-    schedule_run::laws::schedules_differ_in_nothing();
     schedule_laws::versions::laws::runs_hold_versions();
     meaning_laws::laws::fields_are_kept();
     meaning_laws::laws::calls_leave_fields();
@@ -35,7 +34,6 @@ pub fn displayed_is_promised()
     unit_check::laws::checked_units_do_not_fault();
     schedule_run::laws::schedules_keep();
     schedule_run::laws::small_units_have_room();
-    schedule_run::laws::schedules_differ_in_nothing();
     schedule_laws::versions::laws::runs_hold_versions();
     text_show_laws::laws::shown_is_read();
     text_show_laws::laws::read_units_are_named();

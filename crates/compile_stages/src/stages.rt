@@ -9,7 +9,6 @@ ghost use Rattle.exo_types_laws.specs.Laws.{IsLow};
 ghost use Rattle.unit_check.specs.Checked.{Checked};
 ghost use Rattle.unit_check.specs.Outcomes.{IsRefused};
 ghost use Rattle.schedule_text.specs.Views.{number, plain_act, plain_line, plain_statement};
-ghost use Rattle.schedule_laws.specs.Versions.Behind.{NothingDiffers};
 ghost use Rattle.schedule_laws.specs.Versions.Versions.{held_after, version_of};
 ghost use Rattle.schedule_run.specs.PlainVersions.{binding, held, versions};
 ghost use Rattle.schedule_run.specs.declared.why.Why.TheVariants.{Memory};
@@ -27,7 +26,7 @@ use exo_types::laws::read_texts_are_placed;
 use exo_types::unit::check_types;
 use exo_types_laws::laws::{read_units_are_formed, typed_units_are_low};
 use ob_check::{Cache, Gate, new_cache};
-use schedule_run::laws::{schedules_differ_in_nothing, small_units_have_room};
+use schedule_run::laws::small_units_have_room;
 use schedule_run::{Binding, Held, Refused, Session, Why, run_schedule};
 use schedule_text::source::{Act, Line, Schedule, Statement};
 use schedule_text::text::read_schedule;
@@ -96,8 +95,7 @@ fn scheduled<R: Threads + Sync, G: Gate>(
 ) -> Result<Session, Stop>
     requires unit { length unit.now ≤ 1048576 }
     requires schedule { length schedule.now ≤ 1048576 }
-    ensures stage { IfSome (stage versions result) (Schedules unit.now schedule.now) }
-    ensures fields { IfOk result (λ session. NothingDiffers (versions session)) }
+    ensures { IfSome (stage versions result) (Schedules unit.now schedule.now) }
 {
     let mut cache = new_cache(alloc)?;
     let unit = typed(alloc, unit)?;
@@ -186,11 +184,9 @@ fn ran<R: Threads + Sync, G: Gate>(
 ) -> Result<Session, Stop>
     requires formed { IsUnit (program unit) }
     requires low { IsLow (program unit) }
-    ensures stage { IfSome (stage versions result) (IsRan (program unit) count (schedule_of schedule.now)) }
-    ensures fields { IfOk result (λ session. NothingDiffers (versions session)) }
+    ensures { IfSome (stage versions result) (IsRan (program unit) count (schedule_of schedule.now)) }
 {
     small_units_have_room();
-    schedules_differ_in_nothing();
     let lines = schedule.lines.as_slice();
     match run_schedule(rt, alloc, unit, count, lines, cache, gate) {
         Ok(session) => Ok(session),

@@ -1,5 +1,5 @@
 //! Lists of a unit's fields.
-ghost use Rattle.std.specs.Prelude.{◌≡◌, ◌==◌, [], OnOk};
+ghost use Rattle.std.specs.Prelude.{◌≡◌, ◌==◌, [], map, IfOk, OnOk};
 ghost use Rattle.config_live.specs.Listed.{Listed};
 
 use exo_tree::FieldId;
@@ -31,6 +31,17 @@ impl FieldList {
         FieldList {
             items: Vec::new(alloc),
         }
+    }
+
+    /// The list of these fields, in their order.
+    pub fn of(alloc: Global, fields: &[FieldId]) -> Result<FieldList, AllocError>
+        ensures { IfOk result (λ l. l ≡ map (λ f. f.0) fields.now) }
+    {
+        let mut items = Vec::new(alloc);
+        for f in fields {
+            items.push(f.0)?;
+        }
+        Ok(FieldList { items })
     }
 
     /// Puts a field last.

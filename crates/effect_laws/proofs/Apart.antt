@@ -26,7 +26,7 @@ use Rattle.affine_places.specs.Readings.{place_reading}
 use Rattle.affine_forms.specs.Forms.{normal}
 use Rattle.affine_forms.specs.Formulas.{moved}
 use Rattle.affine_forms.specs.Laws.{NormalLaw}
-use Rattle.check_laws.specs.Facts.Laws.{context_of, facts_of, ComesToPlace, Describes, ContextsHold}
+use Rattle.check_laws.specs.Facts.Laws.{context_of, context_fits, facts_of, ComesToPlace, Describes, ContextsHold}
 use Rattle.check_laws.proofs.OfFacts.Truths.{none_some}
 use Rattle.exo_effects.specs.Accesses.{access_of, accesses_of}
 use Rattle.exo_effects.specs.Orders.{Turn, OrderRow, Less, Greater, Order, order_of}
@@ -201,7 +201,7 @@ module _ (laws : Laws) (u : Program) (p : Procedure) (may : MayRun u.fields (len
         go x seen e (inl h) = subst (λ (o : Parts). IsPart (scope_in k.loops scope) (with_turns k.loops ms t.scene) (o x) seen) (same_parts u p (at_hole u p q) k.loops) h
         go x seen e (inr h) = absurd (not_none ((with_turns k.loops ms t.scene).buffers seen.buffer) (now.sound x seen e) (ap (λ b. b seen.buffer) (same_buffers k.loops ms t.scene) ∙ h.1))
 
-    covered_at : (k : Turns) (q : Opened) (ms : List ℤ) → IsThere u p path k q → AreTurns k.loops ms t.scene → Covers (with_turns k.loops ms t.scene) (accesses_of u p k.path k.count) (touched (program_world u) (modes_of u) q.piece (on_scene (with_turns k.loops ms) t))
+    pub covered_at : (k : Turns) (q : Opened) (ms : List ℤ) → IsThere u p path k q → AreTurns k.loops ms t.scene → Covers (with_turns k.loops ms t.scene) (accesses_of u p k.path k.count) (touched (program_world u) (modes_of u) q.piece (on_scene (with_turns k.loops ms) t))
     covered_at k q ms is turns =
         subst (λ us. Covers (with_turns k.loops ms t.scene) (map access_of us) (touched (program_world u) (modes_of u) q.piece (on_scene (with_turns k.loops ms) t))) (sym (ap (λ o. elim o as (λ o. List Use) [ None ↦ [] | Some o ↦ uses_in u p o ]) is.opens))
         (covers u p q (scope_in k.loops scope) (on_scene (with_turns k.loops ms) t) (cover_at k q ms is turns))
@@ -253,7 +253,7 @@ module _ (laws : Laws) (u : Program) (p : Procedure) (may : MayRun u.fields (len
       are_apart shown h =
           let es = touched (program_world u) (modes_of u) o.piece (on_scene (with_turns k.first.loops ms) t) in
           let fs = touched (program_world u) (modes_of u) q.piece (on_scene (with_turns k.second.loops ns) t) in
-          let c = clear (context_of u p path) order path (accesses_of u p k.first.path k.first.count) (accesses_of u p k.second.path k.second.count) v one other es fs known.1.kinds known.1.context shown (two_turns h) (covered_at k.first o ms first m_turns) (covered_at k.second q ns second n_turns) in (
+          let c = clear (context_fits u p path) (context_of u p path) order path (accesses_of u p k.first.path k.first.count) (accesses_of u p k.second.path k.second.count) v one other es fs known.1.kinds known.1.context shown (two_turns h) (covered_at k.first o ms first m_turns) (covered_at k.second q ns second n_turns) in (
             each_weaken (IsClear one fs) (IsClear t.scene fs) es (clear_with t.scene one (same_buffers k.first.loops ms t.scene) fs) c.0,
             each_weaken (IsClear one es) (IsClear t.scene es) fs (clear_with t.scene one (same_buffers k.first.loops ms t.scene) es) c.1,
           )

@@ -20,9 +20,9 @@ use Rattle.affine_systems.specs.Outcomes.{Owed, owed}
 use Rattle.check_laws.proofs.OfFacts.Truths.{parts, joined, both_false}
 use Rattle.exo_effects.specs.Accesses.{Access}
 use Rattle.exo_effects.specs.Orders.{Order}
-use Rattle.exo_effects.specs.Limits.{are_within}
+use Rattle.exo_effects.specs.Limits.{are_within, unless_refused}
 use Rattle.exo_effects.specs.Fresh.{past_formula, past_all, past_access, past_order}
-use Rattle.exo_effects.specs.Conflicts.{against, Fault, ManySystems, Listing, Lists, Refuses, meeting, modes_clash, may_clash, clashing, past_these, owed_for, pair_fault, unless_refused, owed_behind}
+use Rattle.exo_effects.specs.Conflicts.{against, Fault, ManySystems, Listing, Lists, Refuses, meeting, modes_clash, may_clash, clashing, past_these, owed_for, pair_fault, owed_behind}
 use Rattle.effect_laws.specs.Covers.{Reaches, IsCell, IsCellOfSome, IsCovered, Covers}
 use Rattle.effect_laws.specs.Clear.{AreTwoTurns, ClearLaw}
 use Rattle.effect_laws.proofs.Renamed.{left_of, right_of}
@@ -46,7 +46,7 @@ module _ (ctx : List Formula) (order : Order) (place : Path) (base : ℕ) (P : O
       let others = flat_map (owed_for ctx order place base) ps in
       (left_each own others h, each_flat ps (right_each own others h))
 
-  went_on : (o : Option Fault) (t : Bool) (rest : Listing) (os : List Owed) → unless_refused ctx order place base o t rest ≡ Lists os → rest ≡ Lists os
+  went_on : (o : Option Fault) (t : Bool) (rest : Listing) (os : List Owed) → unless_refused Refuses ManySystems o t rest ≡ Lists os → rest ≡ Lists os
   went_on (Some f) t rest os e = absurd (refused e)
     where
       refused : Refuses f ≡ Lists os → ⊥
@@ -57,14 +57,14 @@ module _ (ctx : List Formula) (order : Order) (place : Path) (base : ℕ) (P : O
       refused : Refuses ManySystems ≡ Lists os → ⊥
       refused e = cc
 
-  of_each_pair : (before : List Owed) (ps : List (Access × Access)) (os : List Owed) → owed_behind ctx order place base before ps ≡ Lists os → Each P os → Each P before × Each (λ p. Each P (owed_for ctx order place base p)) ps
-  of_each_pair before [] os e h = (subst (Each P) (sym (same e)) h, tt)
+  of_each_pair : (fits : Bool) (before : List Owed) (ps : List (Access × Access)) (os : List Owed) → owed_behind fits ctx order place base before ps ≡ Lists os → Each P os → Each P before × Each (λ p. Each P (owed_for ctx order place base p)) ps
+  of_each_pair fits before [] os e h = (subst (Each P) (sym (same e)) h, tt)
     where
       same : Lists before ≡ Lists os → before ≡ os
       same e = cc
-  of_each_pair before (p ∷ ps) os e h =
+  of_each_pair fits before (p ∷ ps) os e h =
       let own = owed_for ctx order place base p in
-      let next = of_each_pair (before ++ own) ps os (went_on (pair_fault ctx order place base p) (are_within (before ++ own)) (owed_behind ctx order place base (before ++ own) ps) os e) h in
+      let next = of_each_pair fits (before ++ own) ps os (went_on (pair_fault fits ctx order place base p) (are_within (before ++ own)) (owed_behind fits ctx order place base (before ++ own) ps) os e) h in
       (left_each before own next.0, (right_each before own next.0, next.1))
 
 no_points : (what : List ℕ) (place : Path) (ss : List Constraints) → Each (λ o. HasNoIntegerPoint o.system) (map (owed what place) ss) → AllByRecursion HasNoIntegerPoint ss
@@ -251,7 +251,7 @@ module _ (systems : SystemsLaw) (ctx : List Formula) (order : Order) (xs ys : Li
   )
 
 pub clear_law : SystemsLaw → ClearLaw
-clear_law systems ctx order place xs ys v s t es fs keeps met shown two h k =
+clear_law systems fits ctx order place xs ys v s t es fs keeps met shown two h k =
     let base = past_these ctx order xs ys in
-    let closed = (of_each_pair ctx order place base (λ o. HasNoIntegerPoint o.system) [] (clashing xs ys) shown.0 shown.1 shown.2).1 in
+    let closed = (of_each_pair ctx order place base (λ o. HasNoIntegerPoint o.system) fits [] (clashing xs ys) shown.0 shown.1 shown.2).1 in
     are_clear systems ctx order xs ys v s t keeps met (each_shown ctx order place base (clashing xs ys) closed) two es fs h k

@@ -27,8 +27,9 @@ use Rattle.exo_effects.specs.Accesses.{Access, access_of, accesses_of}
 use Rattle.exo_effects.specs.Orders.{Less, Order, order_of}
 use Rattle.exo_effects.specs.Parts.{Part, whole_of}
 use Rattle.exo_effects.specs.Uses.{modes_of, at_hole, uses_in}
-use Rattle.effect_laws.specs.Words.{context_of}
+use Rattle.effect_laws.specs.Words.{context_of, context_fits}
 use Rattle.effect_laws.specs.Covers.{Covers, SeesPart, MayCover, CoversLaw}
+use Rattle.effect_laws.specs.CoversAtPlaces.{CoversAtPlaces}
 use Rattle.effect_laws.specs.Clear.{AreTwoTurns, ClearLaw}
 use Rattle.effect_laws.specs.Apart.{Turns, Conflict, are_shown_apart, with_turns, IsThere, ApartIsMet}
 
@@ -245,6 +246,13 @@ are_two_turns = record {
 
 cells_are_clear : ClearLaw → AreClear (at_turn (pos 3)) (cell_at (pos 3)) (cell_at (pos 5))
 cells_are_clear law =
-    law (context_of unit three_named place) order place stores stores numbers (at_turn (pos 3))
-    (at_turn (pos 5)) (cell_at (pos 3)) (cell_at (pos 5)) kinds_are_kept refl are_shown are_two_turns
+    law (context_fits unit three_named place) (context_of unit three_named place) order place stores
+    stores numbers (at_turn (pos 3)) (at_turn (pos 5)) (cell_at (pos 3)) (cell_at (pos 5)) kinds_are_kept refl are_shown are_two_turns
     (cell_is_covered (pos 3)) (cell_is_covered (pos 5))
+
+-- the whole body, where a run comes to it
+place_is_covered : CoversAtPlaces
+    → Covers input.scene (accesses_of unit three_named place 1)
+    (touched (program_world unit) (modes_of unit) three_named.body input)
+place_is_covered law =
+    law unit three_named place 0 whole_body input input input may_run refl admissible refl refl

@@ -11,6 +11,7 @@ pub mod Clear
 pub mod Places
 pub mod Turns
 pub mod Apart
+pub mod AtPlaces
 pub mod Examples
 pub mod FitExamples
 pub mod Fits

@@ -14,7 +14,7 @@ use Rattle.exo_meaning.specs.Units.{is_control, is_block, field_kind}
 use Rattle.meaning_laws.specs.Pairs.{AreClear}
 use Rattle.meaning_laws.specs.Sorted.{MayRun, scope_there}
 use Rattle.meaning_laws.specs.Touched.{touched}
-use Rattle.check_laws.specs.Facts.Laws.{context_of, ComesToPlace}
+use Rattle.check_laws.specs.Facts.Laws.{context_of, context_fits, ComesToPlace}
 use Rattle.exo_effects.specs.Accesses.{accesses_of}
 use Rattle.exo_effects.specs.Orders.{Header, OrderRow, Less, Greater, order_of}
 use Rattle.exo_effects.specs.Conflicts.{Listing, conflicts_of}
@@ -40,12 +40,14 @@ pub record Conflict : Type 0 where
 module _ (u : Program) (p : Procedure) (place : Path) (k : Conflict) where
   abbrev pub conflict_listing : Listing
   conflict_listing =
-      conflicts_of (context_of u p place) (order_of k.first.loops k.second.loops k.order) place
+      conflicts_of (context_fits u p place) (context_of u p place)
+      (order_of k.first.loops k.second.loops k.order) place
       (accesses_of u p k.first.path k.first.count) (accesses_of u p k.second.path k.second.count)
 
   abbrev pub are_shown_apart : Type 0
   are_shown_apart =
-      AreShownApart (context_of u p place) (order_of k.first.loops k.second.loops k.order) place
+      AreShownApart (context_fits u p place) (context_of u p place)
+      (order_of k.first.loops k.second.loops k.order) place
       (accesses_of u p k.first.path k.first.count) (accesses_of u p k.second.path k.second.count)
 
 -- ---- turns

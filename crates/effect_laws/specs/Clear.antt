@@ -45,10 +45,11 @@ pub record AreCopies (order : Order) (v : Valuation) (m n : ℕ → ℤ) : Type 
   pub ordered : Each (IsInOrder order m n) order.rows
 
 -- all that is owed for two lists of accesses has no integer point
-abbrev pub AreShownApart : List Formula → Order → Path → List Access → List Access → Type 0
-AreShownApart ctx order place xs ys =
+abbrev pub AreShownApart :
+    Bool → List Formula → Order → Path → List Access → List Access → Type 0
+AreShownApart fits ctx order place xs ys =
     (os : List Owed)
-    × (conflicts_of ctx order place xs ys ≡ Lists os)
+    × (conflicts_of fits ctx order place xs ys ≡ Lists os)
     × Each (λ o. HasNoIntegerPoint o.system) os
 
 -- two states of the same names, but for the loops' variables
@@ -59,11 +60,11 @@ pub record AreTwoTurns (order : Order) (v : Valuation) (s t : Scene) : Type 0 wh
 -- what the one list covers does not clash with what the other covers
 abbrev pub ClearLaw : Type 0
 ClearLaw =
-    (ctx : List Formula) (order : Order) (place : Path) (xs ys : List Access) (v : Valuation)
-    (s t : Scene) (es fs : List Entry)
+    (fits : Bool) (ctx : List Formula) (order : Order) (place : Path) (xs ys : List Access)
+    (v : Valuation) (s t : Scene) (es fs : List Entry)
     → KeepsKinds v
     → all_met v ctx ≡ true
-    → AreShownApart ctx order place xs ys
+    → AreShownApart fits ctx order place xs ys
     → AreTwoTurns order v s t
     → Covers s xs es
     → Covers t ys fs

@@ -1,4 +1,5 @@
 pub mod Covers
+pub mod CoversAtPlaces
 pub mod Clear
 pub mod Apart
 pub mod Fits

@@ -3,6 +3,7 @@
 ghost use Rattle.effect_laws.specs.Apart.{ApartIsMet};
 ghost use Rattle.effect_laws.specs.Clear.{ClearLaw};
 ghost use Rattle.effect_laws.specs.Covers.{CoversLaw};
+ghost use Rattle.effect_laws.specs.CoversAtPlaces.{CoversAtPlaces};
 ghost use Rattle.effect_laws.specs.Fits.{HalvesFit, NestsFit, NeighboursFit};
 ghost use Rattle.effect_laws.specs.Pairs.{PairsAreApart};
 
@@ -14,6 +15,23 @@ pub fn accesses_cover()
 {
     affine_forms::laws::normal_is_exact();
     affine_forms::laws::formulas_are_exact();
+}
+
+/// Wherever a run comes to a piece, its accesses cover what it touches from there.
+pub fn accesses_cover_at_places()
+    ensures { CoversAtPlaces }
+{
+    meaning_laws::laws::opened_blocks_are_there();
+    meaning_laws::laws::names_stay_as_made();
+    meaning_laws::laws::places_fit();
+    meaning_laws::laws::places_are_sound();
+    meaning_laws::laws::free_names_stand_for_nothing();
+    check_laws::facts::laws::contexts_hold();
+    affine_forms::laws::normal_is_exact();
+    place_laws::scope::laws::first_statements_are_at_one_place();
+    place_laws::scope::laws::rules_hold_at_places();
+    accesses_cover();
+    shown_conflicts_are_clear();
 }
 
 /// What two lists of accesses cover does not clash where their conflicts have no integer point.

@@ -1,5 +1,5 @@
 -- The program ends with the answer where nothing failed.
-use Rattle.std.proofs.Common.{◌≡◌, ◌≢◌, ℕ, ◌⊎◌, inl, inr, ⊎_elim, List, Option, Some, refl, ap, ◌∙◌, subst, IfSome}
+use Rattle.std.proofs.Common.{◌≡◌, ℕ, ◌⊎◌, inl, inr, ⊎_elim, List, Option, Some, refl, subst, IfSome}
 use Rattle.exo_cli.specs.declared.status.Status.{Status}
 use Rattle.exo_cli.specs.declared.status.Status.TheVariants.{Ok, Refused, Usage, ReadFault, WriteFault, Memory}
 use Rattle.cli_outside.specs.Outside.{Folder, with_more}

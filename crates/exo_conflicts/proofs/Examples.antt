@@ -1,5 +1,5 @@
 -- Closed instances of the laws.
-use Rattle.std.proofs.Common.{◌≡◌, ℕ, pos, negsuc, List, [], ◌∷◌, refl, arith}
+use Rattle.std.proofs.Common.{true, ◌≡◌, ℕ, pos, negsuc, List, [], ◌∷◌, refl, arith}
 use Rattle.exo_tree.specs.Tree.{Control, Lit, Var, Add, Sub, Mul, Lt}
 use Rattle.affine_forms.specs.Atoms.{Variable, none, term, only, constantly}
 use Rattle.affine_forms.specs.Forms.{normal}
@@ -38,16 +38,17 @@ order = record {
   first = record { variable = 1; lower = constantly (pos 0); upper = only (Variable 0) } ∷ [];
   second = record { variable = 1; lower = constantly (pos 0); upper = only (Variable 0) } ∷ [];
   rows = Less 0 ∷ [];
+  fits = true;
 }
 
 abbrev context : List Formula
 context = at_most (constantly (pos 1)) (only (Variable 0)) ∷ []
 
 abbrev written : Access
-written = record { root = 3; mode = Writing; coords = At (only (Variable 1)) ∷ []; own = []; guards = []; text = [] }
+written = record { root = 3; mode = Writing; coords = At (only (Variable 1)) ∷ []; own = []; guards = []; fits = true; text = [] }
 
 abbrev read : Access
-read = record { root = 3; mode = Reading; coords = At (only (Variable 1)) ∷ []; own = []; guards = []; text = [] }
+read = record { root = 3; mode = Reading; coords = At (only (Variable 1)) ∷ []; own = []; guards = []; fits = true; text = [] }
 
 numbers : CopiedNumbersLaw → systems_of (meeting context order 2 written read) ≡ systems_of (meeting context order 100 written read)
 numbers law = (law context order written read 2 100 (omega arith) (omega arith) (omega arith) (omega arith) (omega arith)).0

@@ -1,5 +1,5 @@
 -- What is owed for a list of pairs does not depend on the number from which the copies have their variables.
-use Rattle.std.proofs.Common.{◌≡◌, ◌≤◌, ◌+◌, ◌^◌, suc, ℕ, max, nat_lt, Bool, true, false, ◌&&◌, List, [], ◌∷◌, ◌++◌, map, Option, Some, None, refl, ap, ap₂, ◌∙◌, arith}
+use Rattle.std.proofs.Common.{◌≡◌, ◌≤◌, ◌+◌, ◌^◌, suc, ℕ, max, nat_lt, Bool, true, false, ◌&&◌, List, [], ◌∷◌, ◌++◌, map, if◌then◌else◌, Some, refl, ap, ap₂, ◌∙◌, arith}
 use Rattle.std.proofs.lemmas.Bool.Decides.{nat_tests}
 use Rattle.std.specs.Prelude.{filter}
 use Rattle.std.specs.List.{AllByRecursion, list_all}
@@ -10,12 +10,12 @@ use Rattle.exo_tree.specs.PlainControl.{control}
 use Rattle.meaning_laws.specs.Facts.{Fact, Holds, Fails}
 use Rattle.affine_forms.specs.Forms.{is_affine}
 use Rattle.affine_forms.specs.Formulas.{Formula}
-use Rattle.affine_systems.specs.Systems.{CasesPassed, SizePassed, Listed}
 use Rattle.affine_systems.specs.Outcomes.{Owed, owed}
 use Rattle.exo_effects.specs.Accesses.{Access, access_of, guard_of, coord_form, plain_form, plain_formula}
-use Rattle.exo_effects.specs.Conflicts.{may_clash, clashing, against, Fault, ManyCases, LargeSystem, Listing, owed_for, pair_fault, unless_refused, owed_behind}
+use Rattle.exo_effects.specs.Conflicts.{may_clash, clashing, against, WideForm, ManySystems, Refuses}
+use Rattle.exo_effects.specs.Conflicts.{owed_for, stated_fault, pair_fits, pair_fault, owed_behind}
 use Rattle.exo_effects.specs.Fresh.{past_linear, past_formula, past_all, past_coord, past_access, past_turn, past_order}
-use Rattle.exo_effects.specs.Limits.{are_within}
+use Rattle.exo_effects.specs.Limits.{are_within, unless_refused}
 use Rattle.exo_effects.specs.Orders.{Order}
 use Rattle.exo_effects.specs.Uses.{Use}
 use Rattle.exo_conflicts.specs.Copies.{numbers_below}
@@ -29,25 +29,19 @@ use Rattle.exo_conflicts.proofs.MeetingNumbers.{systems_up, stated_up}
 abbrev AreBelow : ℕ → Access × Access → Type 0
 AreBelow b p = (past_access p.0 ≤ b) × (past_access p.1 ≤ b)
 
-module _ (ctx : List Formula) (order : Order) (place : Path) (b d : ℕ) (p : past_all past_formula ctx ≤ b) (q : past_order order ≤ b) where
+module _ (fits : Bool) (ctx : List Formula) (order : Order) (place : Path) (b d : ℕ) (p : past_all past_formula ctx ≤ b) (q : past_order order ≤ b) where
   owed_up : (xy : Access × Access) → AreBelow b xy → owed_for ctx order place b xy ≡ owed_for ctx order place (b + d) xy
   owed_up xy h = ap (map (owed (against xy) place)) (systems_up b d ctx order xy.0 xy.1 p q h.0 h.1)
 
-  fault_up : (xy : Access × Access) → AreBelow b xy → pair_fault ctx order place b xy ≡ pair_fault ctx order place (b + d) xy
-  fault_up xy h = ap (λ s. elim s [ CasesPassed ↦ Some ManyCases | SizePassed ↦ Some LargeSystem | Listed ss ↦ None ]) (stated_up b d ctx order xy.0 xy.1 p q h.0 h.1)
+  fault_up : (xy : Access × Access) → AreBelow b xy → pair_fault fits ctx order place b xy ≡ pair_fault fits ctx order place (b + d) xy
+  fault_up xy h = ap (λ s. if pair_fits fits order xy then stated_fault s else Some WideForm) (stated_up b d ctx order xy.0 xy.1 p q h.0 h.1)
 
-  refused_up : (f : Option Fault) (within : Bool) (l : Listing) → unless_refused ctx order place b f within l ≡ unless_refused ctx order place (b + d) f within l
-  refused_up (Some fault) within l = refl
-  refused_up None true l = refl
-  refused_up None false l = refl
-
-  pub behind_up : (os : List Owed) (ps : List (Access × Access)) → AllByRecursion (AreBelow b) ps → owed_behind ctx order place b os ps ≡ owed_behind ctx order place (b + d) os ps
+  pub behind_up : (os : List Owed) (ps : List (Access × Access)) → AllByRecursion (AreBelow b) ps → owed_behind fits ctx order place b os ps ≡ owed_behind fits ctx order place (b + d) os ps
   behind_up os [] h = refl
   behind_up os (xy ∷ ps) h =
       let more = owed_for ctx order place (b + d) xy in
-      ap₂ (λ f ws. unless_refused ctx order place b f (are_within (os ++ ws)) (owed_behind ctx order place b (os ++ ws) ps)) (fault_up xy h.0) (owed_up xy h.0)
-      ∙ ap (λ l. unless_refused ctx order place b (pair_fault ctx order place (b + d) xy) (are_within (os ++ more)) l) (behind_up (os ++ more) ps h.1)
-      ∙ refused_up (pair_fault ctx order place (b + d) xy) (are_within (os ++ more)) (owed_behind ctx order place (b + d) (os ++ more) ps)
+      ap₂ (λ f ws. unless_refused Refuses ManySystems f (are_within (os ++ ws)) (owed_behind fits ctx order place b (os ++ ws) ps)) (fault_up xy h.0) (owed_up xy h.0)
+      ∙ ap (unless_refused Refuses ManySystems (pair_fault fits ctx order place (b + d) xy) (are_within (os ++ more))) (behind_up (os ++ more) ps h.1)
 
 -- ---- the pairs of two lists
 

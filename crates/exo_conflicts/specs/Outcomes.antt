@@ -10,27 +10,27 @@ use Rattle.affine_forms.specs.declared.error.FormError.{FormError}
 use Rattle.affine_forms.specs.declared.error.FormError.TheVariants.{TooManyCases, SystemTooLarge}
 use Rattle.affine_forms.specs.declared.error.FormError.TheVariants.{WideNumber, TooManySystems}
 use Rattle.affine_forms.specs.declared.error.FormError.TheVariants.{Memory}
-use Rattle.affine_systems.specs.Outcomes.{Owed, plain_obligation}
+use Rattle.affine_systems.specs.Outcomes.{Owed, plain_obligation, AreOwed}
+use Rattle.affine_systems.specs.Systems.{Stated, CasesPassed, SizePassed, cases_stated}
 use Rattle.affine_systems.specs.declared.obligation.Obligation.{Obligation}
-use Rattle.exo_effects.specs.Accesses.{Access, use_fits}
+use Rattle.exo_effects.specs.Accesses.{Access}
 use Rattle.exo_effects.specs.Conflicts.{Listing, Lists, Refuses}
-use Rattle.exo_effects.specs.Conflicts.{ManyCases, LargeSystem, ManySystems}
+use Rattle.exo_effects.specs.Conflicts.{WideForm, ManyCases, LargeSystem, ManySystems}
 use Rattle.exo_effects.specs.Conflicts.{span_number, asked, points, bounds, order_row, copied_turns}
-use Rattle.exo_effects.specs.Conflicts.{may_clash, owed_behind}
+use Rattle.exo_effects.specs.Conflicts.{meeting, against, may_clash, pair_fits, owed_behind}
 use Rattle.exo_effects.specs.Low.{use_is_low}
 use Rattle.exo_effects.specs.Orders as orders
 use Rattle.exo_effects.specs.PlainUses.{plain_use}
-use Rattle.exo_effects.specs.Uses.{Use}
 use Rattle.exo_effects.specs.declared.access.Access as declared
-use Rattle.exo_conflicts.specs.PlainCopies.{turn_fits, turn_is_low}
+use Rattle.exo_conflicts.specs.PlainCopies.{turn_is_low}
 use Rattle.exo_conflicts.specs.declared.order.Order.{Order}
 
 -- ---- what is given
 
--- only for want of memory the formulas do not come
-abbrev pub MadeAnew : Result (List Formula) FormError → List Formula → Type 0
-MadeAnew (Ok c) fs = c ≡ fs
-MadeAnew (Err e) fs = e ≡ Memory
+-- the formulas come exactly where all their normal forms can be written down
+abbrev pub MadeAnew : Result (List Formula) FormError → Bool → List Formula → Type 0
+MadeAnew (Ok c) fits fs = (fits ≡ true) × (c ≡ fs)
+MadeAnew (Err e) fits fs = IsWide e fits
 
 -- its variables are below 2^31, and it is not long
 abbrev pub access_is_low : declared.Access → Bool
@@ -42,14 +42,6 @@ abbrev pub order_is_low : Order → Bool
 order_is_low o =
     (list_all turn_is_low o.first.now && nat_le (length o.first.now) (2 ^ 20))
     && (list_all turn_is_low o.second.now && nat_le (length o.second.now) (2 ^ 20))
-
--- the normal forms of the loops can be written down
-abbrev pub order_fits : Order → Bool
-order_fits o = list_all turn_fits o.first.now && list_all turn_fits o.second.now
-
--- and so can those of both lists
-abbrev pub all_fit : Order → List Use → List Use → Bool
-all_fit o xs ys = order_fits o && (list_all use_fits xs && list_all use_fits ys)
 
 -- ---- forms
 
@@ -82,40 +74,46 @@ ordered o =
 abbrev pub clashing_with : Access → List Access → List (Access × Access)
 clashing_with x ys = map (λ y. (x, y)) (filter (λ y. may_clash x y) ys)
 
+-- what a pair owes comes exactly where its normal forms can be written down, and its systems are
+-- neither too many nor too large
+abbrev pub Answered :
+    {A : Type 0}
+    → Result (Vec Obligation A) FormError → Bool → Stated → List ℕ → Path → Type 0
+Answered (Ok os) fits s what place = (fits ≡ true) × AreOwed os.items s what place
+Answered (Err TooManyCases) fits s what place = (fits ≡ true) × (s ≡ CasesPassed)
+Answered (Err SystemTooLarge) fits s what place = (fits ≡ true) × (s ≡ SizePassed)
+Answered (Err WideNumber) fits s what place = fits ≡ false
+Answered (Err TooManySystems) fits s what place = ⊥
+Answered (Err Memory) fits s what place = ⊤
+
 -- the refusal is that of the listing; want of memory is free
 abbrev pub IsFault : FormError → Listing → Type 0
 IsFault TooManyCases l = l ≡ Refuses ManyCases
 IsFault SystemTooLarge l = l ≡ Refuses LargeSystem
-IsFault WideNumber l = ⊥
+IsFault WideNumber l = l ≡ Refuses WideForm
 IsFault TooManySystems l = l ≡ Refuses ManySystems
 IsFault Memory l = ⊤
 
--- the listing goes on behind what is owed for these pairs, or is refused there
-module _ (ctx : List Formula) (order : orders.Order) (place : Path) where
+module _ (fits : Bool) (ctx : List Formula) (order : orders.Order) (place : Path) where
+  abbrev pub AnswersPair :
+      {A : Type 0} → Result (Vec Obligation A) FormError → Access × Access → Type 0
+  AnswersPair result p =
+      Answered result (pair_fits fits order p)
+      (cases_stated (meeting ctx order (2 ^ 31) p.0 p.1)) (against p) place
+
+  -- the listing goes on behind what is owed for these pairs, or is refused there
   abbrev pub Owes :
       {A : Type 0}
       → Result A FormError → List (Access × Access) → List Owed → List Owed → Type 0
   Owes (Ok t) pairs old new =
       (rest : List (Access × Access))
-      → owed_behind ctx order place (2 ^ 31) old (pairs ++ rest)
-      ≡ owed_behind ctx order place (2 ^ 31) new rest
+      → owed_behind fits ctx order place (2 ^ 31) old (pairs ++ rest)
+      ≡ owed_behind fits ctx order place (2 ^ 31) new rest
   Owes (Err e) pairs old new =
       (rest : List (Access × Access))
-      → IsFault e (owed_behind ctx order place (2 ^ 31) old (pairs ++ rest))
+      → IsFault e (owed_behind fits ctx order place (2 ^ 31) old (pairs ++ rest))
 
+-- the list comes exactly where no pair is refused; else the first pair that is refused is told
 abbrev pub IsListed : {A : Type 0} → Result (Vec Obligation A) FormError → Listing → Type 0
 IsListed (Ok os) l = l ≡ Lists (map plain_obligation os.items)
 IsListed (Err e) l = IsFault e l
-
--- ---- all of it
-
--- the list comes exactly where all normal forms can be written down and no pair is refused; else
--- a form is too wide, or the first pair that is refused is told
-abbrev pub Conflicting :
-    {A : Type 0} → Result (Vec Obligation A) FormError → Bool → Listing → Type 0
-Conflicting (Ok os) fits l = (fits ≡ true) × (l ≡ Lists (map plain_obligation os.items))
-Conflicting (Err TooManyCases) fits l = (fits ≡ true) × (l ≡ Refuses ManyCases)
-Conflicting (Err SystemTooLarge) fits l = (fits ≡ true) × (l ≡ Refuses LargeSystem)
-Conflicting (Err WideNumber) fits l = fits ≡ false
-Conflicting (Err TooManySystems) fits l = (fits ≡ true) × (l ≡ Refuses ManySystems)
-Conflicting (Err Memory) fits l = ⊤

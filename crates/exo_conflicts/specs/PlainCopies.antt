@@ -48,11 +48,16 @@ abbrev pub plain_row : OrderRow → orders.OrderRow
 plain_row (row.Less k) = orders.Less k
 plain_row (row.Greater k) = orders.Greater k
 
+-- the normal forms of the loops can be written down
+abbrev pub order_fits : Order → Bool
+order_fits o = list_all turn_fits o.first.now && list_all turn_fits o.second.now
+
 abbrev pub plain_order : Order → orders.Order
 plain_order o = record {
   first = map plain_turn o.first.now;
   second = map plain_turn o.second.now;
   rows = map plain_row o.rows.now;
+  fits = order_fits o;
 }
 
 -- what it says is affine, over variables below 2^31

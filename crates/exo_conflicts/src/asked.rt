@@ -1,11 +1,10 @@
 //! What holds where two accesses meet, from their trees.
-ghost use Rattle.std.specs.Prelude.{◌≡◌, ◌≤◌, ◌^◌, ◌++◌, ◌&&◌, ⊤, IsTrue, length, map};
-ghost use Rattle.std.specs.List.{list_all};
+ghost use Rattle.std.specs.Prelude.{◌≡◌, ◌≤◌, ◌^◌, ◌++◌, ◌&&◌, IsTrue, length, map};
 ghost use Rattle.exo_effects.specs.Accesses.{access_of, use_fits};
 ghost use Rattle.exo_effects.specs.Conflicts.{copied, meeting};
-ghost use Rattle.exo_effects.specs.PlainUses.{plain_use, plain_uses};
-ghost use Rattle.exo_conflicts.specs.Outcomes.{access_is_low, order_is_low, order_fits, Exactly, Asked, ordered};
-ghost use Rattle.exo_conflicts.specs.PlainCopies.{plain_turn, plain_order};
+ghost use Rattle.exo_effects.specs.PlainUses.{plain_use};
+ghost use Rattle.exo_conflicts.specs.Outcomes.{access_is_low, order_is_low, Exactly, Asked, ordered};
+ghost use Rattle.exo_conflicts.specs.PlainCopies.{plain_turn, plain_order, order_fits};
 
 use crate::copies::{copied_coords, copied_turns};
 use crate::guards::say_guards;
@@ -79,25 +78,5 @@ pub(crate) fn put_meeting(
     let first = put_asked(alloc, 0, order.first, x, into)?;
     let second = put_asked(alloc, 1, order.second, y, into)?;
     put_equations(alloc, &first, &second, into)?;
-    Ok(())
-}
-
-/// All normal forms of accesses in the copy of a side can be written down.
-/// `WideNumber` where a number of one passes 2^62.
-pub(crate) fn see_that_they_fit(
-    alloc: Global,
-    side: u32,
-    turns: &[Turn<'_>],
-    accesses: &[Access<'_>],
-) -> Result<(), FormError>
-    requires side { side ≤ 1 }
-    requires few { length turns.now ≤ 2 ^ 20 }
-    requires low { IsTrue (list_all access_is_low accesses.now) }
-    ensures { Exactly result (list_all use_fits (plain_uses accesses.now)) ⊤ }
-{
-    for access in accesses {
-        let mut tried = Context::new(alloc);
-        put_asked(alloc, side, turns, access, &mut tried)?;
-    }
     Ok(())
 }

@@ -19,7 +19,7 @@ use config_state::FieldTable;
 use exo_tree::{Path, Proc, Unit};
 use std::alloc::Global;
 
-/// A place of a procedure of a unit, whose context can be written down.
+/// A place of a procedure of a unit.
 #[derive(Clone, Copy)]
 pub struct Standing<'w, 'r> {
     pub unit: &'w Unit,
@@ -34,11 +34,12 @@ pub struct Standing<'w, 'r> {
     pub ghost table: { IsTable (length (program unit.now).fields) (unit_writes (program unit.now).procedures) writes.now },
     pub ghost rules: { IsTrue (may_be_walked (procedure proc.now)) },
     pub ghost place: { is_place path.now (procedure proc.now) ≡ true },
-    pub ghost fits: { context_fits (program unit.now) (procedure proc.now) path.now ≡ true },
 }
 
 impl Contexts for Standing<'_, '_> {
     ghost known = { λ s. context_of (program s.unit.now) (procedure s.proc.now) s.path.now };
+
+    ghost fits = { λ s. context_fits (program s.unit.now) (procedure s.proc.now) s.path.now };
 
     fn context(&self, alloc: Global) -> Result<Context, FormError> {
         let mut cursor = Cursor::new(alloc, self.unit, self.proc, self.roots, self.writes);

@@ -105,7 +105,7 @@ slanted_system m n = record {
 abbrev place : Path
 place = record { branch = Main; index = 0 } ∷ []
 
-row_6 : conflicts_of context (crossing (Lit (pos 1)) (Lit (pos 0)) (Sub (Var 1) (Lit (pos 1)))) place (accesses 1 slanted) (accesses 1 slanted)
+row_6 : conflicts_of true context (crossing (Lit (pos 1)) (Lit (pos 0)) (Sub (Var 1) (Lit (pos 1)))) place (accesses 1 slanted) (accesses 1 slanted)
     ≡ Lists (owed (codes "A[i, j] against A[i, j]") place (slanted_system (pos 0) (pos 0))
     ∷ owed (codes "A[i, j] against A[i - 1, j + 1]") place (slanted_system (pos 1) (negsuc 0))
     ∷ owed (codes "A[i - 1, j + 1] against A[i, j]") place (slanted_system (negsuc 0) (pos 1))
@@ -159,12 +159,12 @@ abbrev sums_system : List Affine → Constraints
 sums_system es = record { variables = 6; equations = es; rows = sums_rows }
 
 -- reductions exchange, so nothing is owed
-row_7 : conflicts_of context sums_order place (accesses 1 sums) (accesses 1 sums) ≡ Lists []
+row_7 : conflicts_of true context sums_order place (accesses 1 sums) (accesses 1 sums) ≡ Lists []
 unfolding digits
 row_7 = refl
 
 -- the third is refused: j is 0 in the second copy, and greater in the first
-row_7_kept : conflicts_of context sums_order place (accesses 2 kept) (accesses 2 kept)
+row_7_kept : conflicts_of true context sums_order place (accesses 2 kept) (accesses 2 kept)
     ≡ Lists (owed (codes "C[j] against C[0]") place (sums_system (sum (pos 0) (pos 0 ∷ pos 0 ∷ pos 0 ∷ pos 1 ∷ pos 0 ∷ pos 0 ∷ []) ∷ []))
     ∷ owed (codes "D[i, j] against D[i, j]") place (sums_system (sum (pos 0) (pos 0 ∷ pos 0 ∷ pos 1 ∷ pos 0 ∷ negsuc 0 ∷ pos 0 ∷ [])
     ∷ sum (pos 0) (pos 0 ∷ pos 0 ∷ pos 0 ∷ pos 1 ∷ pos 0 ∷ negsuc 0 ∷ []) ∷ []))
@@ -199,6 +199,7 @@ seen_through : accesses_of (unit_of through_view) (of_body through_view) behind_
       coords = At (k_form (pos 1)) ∷ At (constantly (pos 2)) ∷ [];
       own = 8 ∷ [];
       guards = row (k_form (pos 0)) ∷ minus_k (pos 1) ∷ minus_k (pos 0) ∷ [];
+      fits = true;
       text = codes "w[k, 2]";
     } ∷ record {
       root = 2;
@@ -206,6 +207,7 @@ seen_through : accesses_of (unit_of through_view) (of_body through_view) behind_
       coords = At (constantly (pos 2)) ∷ At (constantly (pos 3)) ∷ [];
       own = 8 ∷ [];
       guards = row (k_form (pos 0)) ∷ minus_k (pos 1) ∷ [];
+      fits = true;
       text = codes "w[1, 3]";
     } ∷ []
 unfolding digits
@@ -224,7 +226,7 @@ abbrev loop_over : ℕ → ℕ → Header
 loop_over id letter = record { binder = named id letter; lo = Lit (pos 0); hi = Lit (pos 16) }
 
 -- the second body at an earlier turn against the first: l + k = 15 is met, so they are not fused
-back_to_front : conflicts_of context (order_of (loop_over 9 108 ∷ []) (loop_over 8 107 ∷ []) (Less 0 ∷ [])) place
+back_to_front : conflicts_of true context (order_of (loop_over 9 108 ∷ []) (loop_over 8 107 ∷ []) (Less 0 ∷ [])) place
     (accesses_of (unit_of two_loops) (of_body two_loops) (in_loop 1) 1) (accesses_of (unit_of two_loops) (of_body two_loops) (in_loop 0) 1)
     ≡ Lists (owed (codes "C[15 - l] against C[k]") place (record {
       variables = 4;

@@ -20,12 +20,14 @@ pub data AccessCoord : Type 0 where
   At : Linear → AccessCoord
   Range : Linear → Linear → AccessCoord
 
+-- fits: all its normal forms can be written down
 pub record Access : Type 0 where
   pub root : ℕ
   pub mode : Mode
   pub coords : List AccessCoord
   pub own : List ℕ
   pub guards : List Formula
+  pub fits : Bool
   pub text : Text
 
 -- ---- forms over variables alone
@@ -63,6 +65,10 @@ abbrev pub guard_fits : Fact → Bool
 guard_fits (Holds c) = plain_formula_fits c
 guard_fits (Fails c) = plain_formula_fits c
 
+-- all its normal forms can be written down
+abbrev pub use_fits : Use → Bool
+use_fits x = list_all guard_fits x.round && list_all coord_fits x.coords
+
 abbrev pub access_of : Use → Access
 access_of x = record {
   root = x.root;
@@ -70,18 +76,12 @@ access_of x = record {
   coords = map coord_form x.coords;
   own = x.own;
   guards = map guard_of x.round;
+  fits = use_fits x;
   text = x.text;
 }
-
--- all its normal forms can be written down
-abbrev pub use_fits : Use → Bool
-use_fits x = list_all guard_fits x.round && list_all coord_fits x.coords
 
 -- ---- of so many statements of a procedure from a path on
 
 module _ (u : Program) (p : Procedure) (path : Path) (count : ℕ) where
   abbrev pub accesses_of : List Access
   accesses_of = map access_of (uses_at u p path count)
-
-  abbrev pub accesses_fit : Bool
-  accesses_fit = list_all use_fits (uses_at u p path count)

@@ -6,9 +6,10 @@ use Rattle.exo_tree.specs.Places.{Path}
 use Rattle.exo_meaning.specs.Modes.{Mode, Reading, Writing, Reducing}
 use Rattle.affine_forms.specs.Atoms.{Variable, Linear, only}
 use Rattle.affine_forms.specs.Formulas.{Formula, less, at_most, equal}
-use Rattle.affine_systems.specs.Systems.{systems_of, cases_stated, CasesPassed, SizePassed, Listed}
+use Rattle.affine_systems.specs.Systems.{Stated, CasesPassed, SizePassed, Listed}
+use Rattle.affine_systems.specs.Systems.{systems_of, cases_stated}
 use Rattle.affine_systems.specs.Outcomes.{Owed, owed}
-use Rattle.exo_effects.specs.Limits.{are_within}
+use Rattle.exo_effects.specs.Limits.{are_within, unless_refused}
 use Rattle.text_show.specs.Layout.{Text}
 use Rattle.exo_effects.specs.Renamed.{re_linear, re_formula}
 use Rattle.exo_effects.specs.Fresh.{past_formula, past_all, past_access, past_order}
@@ -155,7 +156,7 @@ against p = p.0.text ++ codes " against " ++ p.1.text
 -- ---- what is owed, and when it is refused
 
 pub data Fault : Type 0 where
-  ManyCases LargeSystem ManySystems : Fault
+  WideForm ManyCases LargeSystem ManySystems : Fault
 
 pub data Listing : Type 0 where
   Lists : List Owed → Listing
@@ -167,31 +168,38 @@ past_these ctx order xs ys =
     max (max (past_all past_formula ctx) (past_order order))
     (max (past_all past_access xs) (past_all past_access ys))
 
+-- of systems: first their number, then their sizes
+abbrev pub stated_fault : Stated → Option Fault
+stated_fault CasesPassed = Some ManyCases
+stated_fault SizePassed = Some LargeSystem
+stated_fault (Listed ss) = None
+
 module _ (ctx : List Formula) (order : Order) (place : Path) (base : ℕ) where
   abbrev pub owed_for : Access × Access → List Owed
   owed_for p = map (owed (against p) place) (systems_of (meeting ctx order base p.0 p.1))
 
-  -- first its cases, then the size of its systems
-  abbrev pub pair_fault : Access × Access → Option Fault
-  pair_fault p = elim (cases_stated (meeting ctx order base p.0 p.1)) [
-    | CasesPassed ↦ Some ManyCases
-    | SizePassed ↦ Some LargeSystem
-    | Listed ss ↦ None
-  ]
+-- fits: the normal forms of the context can be written down
 
-  -- goes on where there is no fault, and what is owed so far is within the limits
-  abbrev pub unless_refused : Option Fault → Bool → Listing → Listing
-  unless_refused (Some fault) within rest = Refuses fault
-  unless_refused None true rest = rest
-  unless_refused None false rest = Refuses ManySystems
+-- all normal forms that a pair needs can be: those of context, loops and both accesses
+abbrev pub pair_fits : Bool → Order → Access × Access → Bool
+pair_fits fits order p = fits && (order.fits && (p.0.fits && p.1.fits))
+
+module _ (fits : Bool) (ctx : List Formula) (order : Order) (place : Path) (base : ℕ) where
+  -- first its forms, then its systems
+  abbrev pub pair_fault : Access × Access → Option Fault
+  pair_fault p =
+      if pair_fits fits order p then stated_fault (cases_stated (meeting ctx order base p.0 p.1))
+      else Some WideForm
 
   -- behind what is owed already; the first pair that is refused is told
   abbrev pub owed_behind : List Owed → List (Access × Access) → Listing
   owed_behind os [] = Lists os
   owed_behind os (p ∷ ps) =
-      unless_refused (pair_fault p) (are_within (os ++ owed_for p))
-      (owed_behind (os ++ owed_for p) ps)
+      let more = os ++ owed_for ctx order place base p in
+      unless_refused Refuses ManySystems (pair_fault p) (are_within more) (owed_behind more ps)
 
-abbrev pub conflicts_of : List Formula → Order → Path → List Access → List Access → Listing
-conflicts_of ctx order place xs ys =
-    owed_behind ctx order place (past_these ctx order xs ys) [] (clashing xs ys)
+-- no normal form is made but with a pair that may clash
+abbrev pub conflicts_of :
+    Bool → List Formula → Order → Path → List Access → List Access → Listing
+conflicts_of fits ctx order place xs ys =
+    owed_behind fits ctx order place (past_these ctx order xs ys) [] (clashing xs ys)

@@ -1,8 +1,9 @@
 -- Two copies of the loop variables of a step, and how they stand to each other.
-use Rattle.std.specs.Prelude.{ℕ, List, [], map}
+use Rattle.std.specs.Prelude.{ℕ, Bool, true, ◌&&◌, List, [], map}
+use Rattle.std.specs.List.{list_all}
 use Rattle.exo_tree.specs.Tree.{Binder, Control}
 use Rattle.affine_forms.specs.Atoms.{Linear}
-use Rattle.exo_effects.specs.Accesses.{plain_form}
+use Rattle.exo_effects.specs.Accesses.{plain_form, plain_fits}
 
 -- a variable from its lower end up to the end that it does not reach
 pub record Turn : Type 0 where
@@ -16,14 +17,16 @@ pub data OrderRow : Type 0 where
   Less Greater : ℕ → OrderRow
 
 -- the loops of each copy, from the outermost inwards
+-- fits: the normal forms of their ends can be written down
 pub record Order : Type 0 where
   pub first : List Turn
   pub second : List Turn
   pub rows : List OrderRow
+  pub fits : Bool
 
 -- no loops
 abbrev pub no_order : Order
-no_order = record { first = []; second = []; rows = [] }
+no_order = record { first = []; second = []; rows = []; fits = true }
 
 -- ---- of loops
 
@@ -39,6 +42,14 @@ turn_of h = record {
   upper = plain_form h.hi;
 }
 
+-- the normal forms of both ends of a loop can be written down
+abbrev pub header_fits : Header → Bool
+header_fits h = plain_fits h.lo && plain_fits h.hi
+
 abbrev pub order_of : List Header → List Header → List OrderRow → Order
-order_of first second rows =
-    record { first = map turn_of first; second = map turn_of second; rows = rows }
+order_of first second rows = record {
+  first = map turn_of first;
+  second = map turn_of second;
+  rows = rows;
+  fits = list_all header_fits first && list_all header_fits second;
+}

@@ -1,17 +1,29 @@
--- Well-formed units: the rules on names, kinds, ranks and places that the text of a unit keeps and every rewrite keeps.
--- Each rule is a test, so a unit is well formed or not. That names are spelled as the grammar asks is said with the grammar.
-use Rattle.std.specs.Prelude.{◌≡◌, ◌^◌, ◌==◌, ℕ, zero, suc, ℤ, pos, int_le, int_lt, nat_lt, Bool, true, false, not, ◌&&◌, ◌||◌, if◌then◌else◌, List, [], ◌∷◌, ◌++◌, length, map, Option, Some, None, slice_get}
+-- Well-formed units: the rules on names, kinds, ranks and places that the text of a unit keeps and
+-- every rewrite keeps.
+-- Each rule is a test, so a unit is well formed or not. That names are spelled as the grammar asks
+-- is said with the grammar.
+use Rattle.std.specs.Prelude.{◌≡◌, ◌^◌, ◌==◌, ℕ, zero, suc, ℤ, pos, int_le, int_lt, nat_lt, Bool}
+use Rattle.std.specs.Prelude.{true, false, not, ◌&&◌, ◌||◌, if◌then◌else◌, List, [], ◌∷◌, ◌++◌}
+use Rattle.std.specs.Prelude.{length, map, Option, Some, None, slice_get}
 use Rattle.std.specs.List.{list_any, list_all}
 use Rattle.std.specs.Cmp.Lexicographic.{pointwise}
 pub use Rattle.exo_tree.specs.Cells.{same_cell}
-use Rattle.exo_tree.specs.Tree.{Cell, I32, Kind, Size, Index, Truth, Stride, Binder, Control, Lit, Var, Field, StrideOf, Neg, Add, Sub, Mul, Div, Mod, Condition, True, False, Flag, FieldFlag, Lt, Le, Gt, Ge, Eq, And, Or, Datum, Const, Read, Negated, Relu, Plus, Minus, Times, Select, Coord, At, Span, Argument, ControlArg, ConditionArg, Whole, Window, Statement, Assign, Reduce, Config, Pass, If, For, Alloc, View, Call, Block, end, next, statements, Param, ParamKind, ControlParam, TensorParam, WindowParam, Procedure, ConfigField, MemoryKind, Program}
+use Rattle.exo_tree.specs.Tree.{Cell, I32, Kind, Size, Index, Truth, Stride, Binder, Control, Lit}
+use Rattle.exo_tree.specs.Tree.{Var, Field, StrideOf, Neg, Add, Sub, Mul, Div, Mod, Condition, True}
+use Rattle.exo_tree.specs.Tree.{False, Flag, FieldFlag, Lt, Le, Gt, Ge, Eq, And, Or, Datum, Const}
+use Rattle.exo_tree.specs.Tree.{Read, Negated, Relu, Plus, Minus, Times, Select, Coord, At, Span}
+use Rattle.exo_tree.specs.Tree.{Argument, ControlArg, ConditionArg, Whole, Window, Statement}
+use Rattle.exo_tree.specs.Tree.{Assign, Reduce, Config, Pass, If, For, Alloc, View, Call, Block}
+use Rattle.exo_tree.specs.Tree.{end, next, statements, Param, ParamKind, ControlParam, TensorParam}
+use Rattle.exo_tree.specs.Tree.{WindowParam, Procedure, ConfigField, MemoryKind, Program}
 use Rattle.exo_meaning.specs.Calls.{Callee}
 use Rattle.exo_meaning.specs.Run.{world_of, callee_in, kinds_of, roots_after}
 use Rattle.exo_meaning.specs.Binders.{binders}
 
 -- ---- names in scope
 
--- a control value of a kind; or a buffer or view, with its cell type and rank, and whether it is a whole dense tensor
+-- a control value of a kind; or a buffer or view, with its cell type and rank, and whether it is a
+-- whole dense tensor
 pub data Sort : Type 0 where
   ControlName : Kind → Sort
   BufferName : Cell → ℕ → Bool → Sort
@@ -110,7 +122,8 @@ scope_after (Config f a) scope = scope
 scope_after Pass scope = scope
 scope_after (If c a b) scope = scope
 scope_after (For i lo hi b) scope = scope
-scope_after (Alloc x cell dims memory) scope = with_name scope x (BufferName cell (length dims) true)
+scope_after (Alloc x cell dims memory) scope =
+    with_name scope x (BufferName cell (length dims) true)
 scope_after (View w x coords) scope = with_name scope w (view_sort (sort_in scope x) (spans coords))
 scope_after (Call k args) scope = scope
 
@@ -202,9 +215,15 @@ data_ending = 95 ∷ 100 ∷ 97 ∷ 116 ∷ 97 ∷ []
 
 -- `{n}` of a control parameter, `{x_data}` of a buffer parameter
 abbrev pub is_hole_of : List ℕ → Param → Bool
-is_hole_of name p = elim p.kind [ ControlParam kind ↦ is_text name p.binder.name | TensorParam cell dims memory ↦ is_text name (p.binder.name ++ data_ending) | WindowParam cell dims memory ↦ is_text name (p.binder.name ++ data_ending) ]
+is_hole_of name p =
+    elim p.kind [
+      | ControlParam kind ↦ is_text name p.binder.name
+      | TensorParam cell dims memory ↦ is_text name (p.binder.name ++ data_ending)
+      | WindowParam cell dims memory ↦ is_text name (p.binder.name ++ data_ending)
+    ]
 
--- where the reading of a template stands: in plain text, behind an opening brace, in a hole, or behind a closing brace
+-- where the reading of a template stands: in plain text, behind an opening brace, in a hole, or
+-- behind a closing brace
 pub data Reading : Type 0 where
   Plain Opened Closed : Reading
   InHole : List ℕ → Reading
@@ -215,10 +234,16 @@ holes_fit ps Plain [] = true
 holes_fit ps Opened [] = false
 holes_fit ps Closed [] = false
 holes_fit ps (InHole name) [] = false
-holes_fit ps Plain (c ∷ text) = if c == 123 then holes_fit ps Opened text else (if c == 125 then holes_fit ps Closed text else holes_fit ps Plain text)
-holes_fit ps Opened (c ∷ text) = if c == 123 then holes_fit ps Plain text else (if c == 125 then false else holes_fit ps (InHole (c ∷ [])) text)
+holes_fit ps Plain (c ∷ text) =
+    if c == 123 then holes_fit ps Opened text
+    else (if c == 125 then holes_fit ps Closed text else holes_fit ps Plain text)
+holes_fit ps Opened (c ∷ text) =
+    if c == 123 then holes_fit ps Plain text
+    else (if c == 125 then false else holes_fit ps (InHole (c ∷ [])) text)
 holes_fit ps Closed (c ∷ text) = if c == 125 then holes_fit ps Plain text else false
-holes_fit ps (InHole name) (c ∷ text) = if c == 125 then list_any (is_hole_of name) ps && holes_fit ps Plain text else holes_fit ps (InHole (name ++ c ∷ [])) text
+holes_fit ps (InHole name) (c ∷ text) =
+    if c == 125 then list_any (is_hole_of name) ps && holes_fit ps Plain text
+    else holes_fit ps (InHole (name ++ c ∷ [])) text
 
 abbrev pub is_template : List Param → Option (List ℕ) → Bool
 is_template ps None = true
@@ -245,9 +270,12 @@ module _ (fields : ℕ → Option Kind) where
   is_control may scope (Neg a) = is_control may scope a
   is_control may scope (Add a b) = is_control may scope a && is_control may scope b
   is_control may scope (Sub a b) = is_control may scope a && is_control may scope b
-  is_control may scope (Mul a b) = (is_control may scope a && is_control may scope b) && (is_of_literals a || is_of_literals b)
-  is_control may scope (Div a c) = is_control may scope a && (is_literal_number c && int_lt (pos 0) c)
-  is_control may scope (Mod a c) = is_control may scope a && (is_literal_number c && int_lt (pos 0) c)
+  is_control may scope (Mul a b) =
+      (is_control may scope a && is_control may scope b) && (is_of_literals a || is_of_literals b)
+  is_control may scope (Div a c) =
+      is_control may scope a && (is_literal_number c && int_lt (pos 0) c)
+  is_control may scope (Mod a c) =
+      is_control may scope a && (is_literal_number c && int_lt (pos 0) c)
 
   abbrev pub are_controls : Reads → Scope → List Control → Bool
   are_controls may scope as' = list_all (is_control may scope) as'
@@ -277,7 +305,8 @@ module _ (fields : ℕ → Option Kind) where
   is_datum scope (Plus a b) = is_datum scope a && is_datum scope b
   is_datum scope (Minus a b) = is_datum scope a && is_datum scope b
   is_datum scope (Times a b) = is_datum scope a && is_datum scope b
-  is_datum scope (Select a b c d) = (is_datum scope a && is_datum scope b) && (is_datum scope c && is_datum scope d)
+  is_datum scope (Select a b c d) =
+      (is_datum scope a && is_datum scope b) && (is_datum scope c && is_datum scope d)
 
   abbrev pub is_coord : Scope → Coord → Bool
   is_coord scope (At a) = is_control plainly scope a
@@ -285,7 +314,8 @@ module _ (fields : ℕ → Option Kind) where
 
   -- a window has a coordinate for each dimension
   abbrev pub is_window : Scope → ℕ → List Coord → Bool
-  is_window scope x coords = has_rank (length coords) (sort_in scope x) && list_all (is_coord scope) coords
+  is_window scope x coords =
+      has_rank (length coords) (sort_in scope x) && list_all (is_coord scope) coords
 
   -- ---- arguments
 
@@ -300,15 +330,22 @@ module _ (fields : ℕ → Option Kind) where
   abbrev pub is_for_tensor : Scope → Cell → ℕ → Argument → Bool
   is_for_tensor scope cell rank (ControlArg a) = false
   is_for_tensor scope cell rank (ConditionArg c) = false
-  is_for_tensor scope cell rank (Whole x) = has_cell cell (sort_in scope x) && (has_rank rank (sort_in scope x) && ((rank == 0) || is_dense (sort_in scope x)))
-  is_for_tensor scope cell rank (Window x coords) = has_cell cell (sort_in scope x) && (is_window scope x coords && ((rank == 0) && ((spans coords == 0) && not (length coords == 0))))
+  is_for_tensor scope cell rank (Whole x) =
+      has_cell cell (sort_in scope x)
+      && (has_rank rank (sort_in scope x) && ((rank == 0) || is_dense (sort_in scope x)))
+  is_for_tensor scope cell rank (Window x coords) =
+      has_cell cell (sort_in scope x)
+      && (is_window scope x coords
+      && ((rank == 0) && ((spans coords == 0) && not (length coords == 0))))
 
   -- a window takes a whole buffer or view, or a window with as many spans as its rank
   abbrev pub is_for_window : Scope → Cell → ℕ → Argument → Bool
   is_for_window scope cell rank (ControlArg a) = false
   is_for_window scope cell rank (ConditionArg c) = false
-  is_for_window scope cell rank (Whole x) = has_cell cell (sort_in scope x) && has_rank rank (sort_in scope x)
-  is_for_window scope cell rank (Window x coords) = has_cell cell (sort_in scope x) && (is_window scope x coords && (rank == spans coords))
+  is_for_window scope cell rank (Whole x) =
+      has_cell cell (sort_in scope x) && has_rank rank (sort_in scope x)
+  is_for_window scope cell rank (Window x coords) =
+      has_cell cell (sort_in scope x) && (is_window scope x coords && (rank == spans coords))
 
   abbrev pub is_for : Scope → ParamKind → Argument → Bool
   is_for scope (ControlParam kind) a = is_of_kind with_both scope kind a
@@ -333,33 +370,47 @@ module _ (fields : ℕ → Option Kind) where
   same_root (Some x) None = false
   same_root (Some x) (Some y) = x == y
 
-  -- some later argument is of the same buffer, the callee writes one of the two parameters, and one of the two is a tensor with dimensions
+  -- some later argument is of the same buffer, the callee writes one of the two parameters, and one
+  -- of the two is a tensor with dimensions
   abbrev pub is_shared : (ℕ → Bool) → (ℕ → ℕ) → Param → Option ℕ → List Param → List Argument → Bool
   is_shared writes root p r [] args = false
   is_shared writes root p r (q ∷ qs) [] = false
-  is_shared writes root p r (q ∷ qs) (a ∷ args) = (same_root r (root_of root a) && ((writes p.binder.id || writes q.binder.id) && (is_whole p.kind || is_whole q.kind))) || is_shared writes root p r qs args
+  is_shared writes root p r (q ∷ qs) (a ∷ args) =
+      (same_root r (root_of root a)
+      && ((writes p.binder.id || writes q.binder.id) && (is_whole p.kind || is_whole q.kind)))
+      || is_shared writes root p r qs args
 
   abbrev pub share_nothing_written : (ℕ → Bool) → (ℕ → ℕ) → List Param → List Argument → Bool
   share_nothing_written writes root [] args = true
   share_nothing_written writes root (p ∷ ps) [] = true
-  share_nothing_written writes root (p ∷ ps) (a ∷ args) = not (is_shared writes root p (root_of root a) ps args) && share_nothing_written writes root ps args
+  share_nothing_written writes root (p ∷ ps) (a ∷ args) =
+      not (is_shared writes root p (root_of root a) ps args)
+      && share_nothing_written writes root ps args
 
   -- a call of a procedure that stands above
   abbrev pub is_call : Scope → (ℕ → ℕ) → Option Callee → List Argument → Bool
   is_call scope root None args = false
-  is_call scope root (Some callee) args = are_for scope callee.procedure.params args && share_nothing_written callee.writes root callee.procedure.params args
+  is_call scope root (Some callee) args =
+      are_for scope callee.procedure.params args
+      && share_nothing_written callee.writes root callee.procedure.params args
 
   -- ---- parameters
 
   abbrev pub is_param_kind : ℕ → Scope → ParamKind → Bool
   is_param_kind memories scope (ControlParam kind) = true
-  is_param_kind memories scope (TensorParam cell dims memory) = are_controls plainly scope dims && (is_rank (length dims) && nat_lt memory memories)
-  is_param_kind memories scope (WindowParam cell dims memory) = are_controls plainly scope dims && ((is_rank (length dims) && nat_lt 0 (length dims)) && nat_lt memory memories)
+  is_param_kind memories scope (TensorParam cell dims memory) =
+      are_controls plainly scope dims && (is_rank (length dims) && nat_lt memory memories)
+  is_param_kind memories scope (WindowParam cell dims memory) =
+      are_controls plainly scope dims
+      && ((is_rank (length dims) && nat_lt 0 (length dims)) && nat_lt memory memories)
 
   -- the dimensions of a parameter see the parameters before it
   abbrev pub are_params : ℕ → Scope → List Param → Bool
   are_params memories scope [] = true
-  are_params memories scope (p ∷ ps) = is_new scope p.binder && (is_param_kind memories scope p.kind && are_params memories (with_name scope p.binder (param_sort p.kind)) ps)
+  are_params memories scope (p ∷ ps) =
+      is_new scope p.binder
+      && (is_param_kind memories scope p.kind
+      && are_params memories (with_name scope p.binder (param_sort p.kind)) ps)
 
   -- ---- statements
 
@@ -371,20 +422,32 @@ module _ (fields : ℕ → Option Kind) where
     abbrev mutual
       pub is_block : Scope → (ℕ → ℕ) → Block → Bool
       is_block scope root end = true
-      is_block scope root (next a b) = is_statement scope root a && is_block (scope_after a scope) (roots_after a root) b
+      is_block scope root (next a b) =
+          is_statement scope root a && is_block (scope_after a scope) (roots_after a root) b
 
       pub is_statement : Scope → (ℕ → ℕ) → Statement → Bool
       is_statement scope root (Assign x is e) = is_access scope x is && is_datum scope e
       is_statement scope root (Reduce x is e) = is_access scope x is && is_datum scope e
       is_statement scope root (Config f a) = is_write scope (fields f) a
       is_statement scope root Pass = true
-      is_statement scope root (If c a b) = is_condition with_fields scope c && ((not (is_empty a) && (is_short a && is_short b)) && (is_block scope root a && is_block scope root b))
-      is_statement scope root (For i lo hi b) = is_new scope i && ((is_control plainly scope lo && is_control plainly scope hi) && ((not (is_empty b) && is_short b) && is_block (with_name scope i (ControlName Index)) root b))
-      is_statement scope root (Alloc x cell dims memory) = is_new scope x && (are_controls plainly scope dims && (is_rank (length dims) && nat_lt memory memories))
-      is_statement scope root (View w x coords) = is_new scope w && (is_window scope x coords && nat_lt 0 (spans coords))
+      is_statement scope root (If c a b) =
+          is_condition with_fields scope c
+          && ((not (is_empty a) && (is_short a && is_short b))
+          && (is_block scope root a && is_block scope root b))
+      is_statement scope root (For i lo hi b) =
+          is_new scope i
+          && ((is_control plainly scope lo && is_control plainly scope hi)
+          && ((not (is_empty b) && is_short b)
+          && is_block (with_name scope i (ControlName Index)) root b))
+      is_statement scope root (Alloc x cell dims memory) =
+          is_new scope x
+          && (are_controls plainly scope dims && (is_rank (length dims) && nat_lt memory memories))
+      is_statement scope root (View w x coords) =
+          is_new scope w && (is_window scope x coords && nat_lt 0 (spans coords))
       is_statement scope root (Call k args) = is_call scope root (callees k) args
 
-    -- its names and kinds are right, each id is below 2^31 and bound once, and no path is longer than 32
+    -- its names and kinds are right, each id is below 2^31 and bound once, and no path is longer
+    -- than 32
     pub record IsProcedure (p : Procedure) : Type 0 where
       pub params : are_params memories [] p.params ≡ true
       pub asserts : list_all (is_condition with_both (scope_of [] p.params)) p.asserts ≡ true
@@ -407,7 +470,10 @@ has_type (Some cell) = true
 
 -- a memory with lanes has a C type and a cell type, and only instructions touch it
 abbrev pub is_memory : MemoryKind → Bool
-is_memory m = nat_lt m.lanes 65 && (if m.lanes == 0 then (length m.ctype == 0) else (not (length m.ctype == 0) && (has_type m.cell && not (m.read || (m.write || m.reduce)))))
+is_memory m =
+    nat_lt m.lanes 65
+    && (if m.lanes == 0 then (length m.ctype == 0)
+    else (not (length m.ctype == 0) && (has_type m.cell && not (m.read || (m.write || m.reduce)))))
 
 -- no two elements are the same by the test
 abbrev pub all_differ : {A : Type 0} → (A → A → Bool) → List A → Bool
@@ -420,12 +486,20 @@ same_field f g = is_text f.config g.config && is_text f.name g.name
 -- each procedure keeps the rules, and calls only procedures before it
 abbrev pub AreProcedures : List ConfigField → ℕ → List Callee → List Procedure → Type 0
 AreProcedures fields memories above [] = Unit {0}
-AreProcedures fields memories above (p ∷ ps) = IsProcedure (field_kind fields) memories (slice_get above) p × AreProcedures fields memories (above ++ callee_in (world_of (kinds_of fields) above) p ∷ []) ps
+AreProcedures fields memories above (p ∷ ps) =
+    IsProcedure (field_kind fields) memories (slice_get above) p
+    × AreProcedures fields memories
+    (above ++ callee_in (world_of (kinds_of fields) above) p ∷ []) ps
 
 -- names of procedures are left out: a version may have the name of another
 pub record IsUnit (unit : Program) : Type 0 where
   pub procedures : AreProcedures unit.fields (length unit.memories) [] unit.procedures
   pub fields : all_differ same_field unit.fields ≡ true
-  pub memories : (all_differ (λ m n. is_text m.name n.name) unit.memories && list_all is_memory unit.memories) ≡ true
-  pub spaces : list_any (λ m. list_any (λ f. is_text m.name f.config) unit.fields) unit.memories ≡ false
-  pub counts : (nat_lt (length unit.procedures) (2 ^ 31) && (nat_lt (length unit.fields) (2 ^ 31) && nat_lt (length unit.memories) (2 ^ 31))) ≡ true
+  pub memories :
+      (all_differ (λ m n. is_text m.name n.name) unit.memories && list_all is_memory unit.memories)
+      ≡ true
+  pub spaces : list_any (λ m. list_any (λ f. is_text m.name f.config) unit.fields) unit.memories
+      ≡ false
+  pub counts :
+      (nat_lt (length unit.procedures) (2 ^ 31)
+      && (nat_lt (length unit.fields) (2 ^ 31) && nat_lt (length unit.memories) (2 ^ 31))) ≡ true

@@ -1,5 +1,5 @@
 -- What is answered where a match is found, and where none is.
-use Rattle.std.proofs.Common.{◌≡◌, ℕ, ◌+◌, ◌<◌, Bool, true, false, List, [], Option, Some, None, refl, sym, ap, ◌∙◌}
+use Rattle.std.proofs.Common.{◌≡◌, ℕ, ◌+◌, ◌<◌, Bool, true, false, Option, Some, None, refl, sym, ap, ◌∙◌}
 use Rattle.std.proofs.Common.{if◌then◌else◌, arith}
 use Rattle.std.proofs.lemmas.Bool.Decides.{nat_tests}
 use Rattle.std.specs.Prelude.{nat_lt, option_map, option_and_then}
@@ -7,7 +7,7 @@ use Rattle.exo_tree.specs.Tree.{Datum, Block, end}
 use Rattle.exo_tree.specs.Places.{Path, Opened, opened}
 use Rattle.cursor_patterns.specs.Patterns.{ExprPattern}
 use Rattle.cursor_forward.specs.Causes.{Cause, WrongShape}
-use Rattle.step_rules.specs.Rule.{Tried, Got, Not, Target, Piece}
+use Rattle.step_rules.specs.Rule.{Got, Not, Target}
 use Rattle.step_rules.specs.Shapes.{tried, one_statement}
 use Rattle.step_driver.specs.Outcomes.{RefusedBy}
 use Rattle.step_driver.specs.Spots.{or_nothing, spot_at}

@@ -1,32 +1,27 @@
 //! The step that exchanges the sides of a sum or product.
-ghost use Rattle.std.specs.Prelude.{◌≡◌, option_map, IfOk};
+ghost use Rattle.std.specs.Prelude.{◌≡◌, option_map, refl};
 ghost use Rattle.exo_tree.specs.Tree.{block, end, next};
 ghost use Rattle.exo_tree.specs.PlainDatum.{datum};
 ghost use Rattle.exo_tree.specs.PlainStatement.{statement};
-ghost use Rattle.exo_tree.specs.PlainUnit.{program};
-ghost use Rattle.exo_modes.specs.Marks.{modes_of};
-ghost use Rattle.exo_modes.specs.Seen.{table_says};
 ghost use Rattle.cursor_patterns.specs.PlainPattern.{plain_form, plain_expr_pattern};
-ghost use Rattle.cursor_forward.specs.PlainProposal.{plain_proposal};
-ghost use Rattle.step_rules.specs.Answer.{proposed};
-ghost use Rattle.step_rules.specs.Lawful.{IsTarget};
 ghost use Rattle.step_rules.specs.Shapes.{tried};
 ghost use Rattle.proc_laws.specs.Expression.Commute as commute;
 ghost use Rattle.proc_laws.specs.Expression.Commute.{commute_rule};
 ghost use Rattle.proc_laws.proofs.OfExpression.Commute.{commute_is_lawful, commute_is_carrying};
-ghost use Rattle.step_driver.specs.Outcomes.{Tries, IsKept, KeepsMeaning, Moves};
+ghost use Rattle.step_driver.specs.Outcomes.{Tries};
 ghost use Rattle.step_driver.specs.PlainTarget.{target, plain_piece};
 ghost use Rattle.step_driver.specs.Spots.{spot_at};
 ghost use Rattle.expression_rewrites.specs.PlainOperation.{plain_operation};
 
 use crate::exchange::{Operation, exchange};
-use cursor_forward::{Proposal, Shifts, StepError};
+use cursor_forward::{Shifts, StepError};
 use cursor_patterns::{ExprForm, ExprPattern};
-use exo_tree::{Block, DataExpr, Name, Path, Proc, Stmt};
+use exo_tree::{Block, DataExpr, Path, Stmt};
 use made_trees::Fresh;
 use std::alloc::{AllocError, Global};
-use step_driver::{Exit, Operator, Piece, Target, Writing, propose, stays};
+use step_driver::{Piece, Target, Writing, stays};
 use step_needs::Need;
+use step_targets::{OnPiece, Plain};
 
 /// The operation that a form of expressions stands for.
 fn operation_of(form: &ExprForm) -> Option<Operation>
@@ -92,27 +87,32 @@ fn commuted_block(
     Ok(Block::single(alloc, made)?)
 }
 
-/// The step that exchanges the sides of a sum or product on the right of an assignment or a reduction.
+/// The step that exchanges the sides of a sum or product on the right of an assignment or a reduction. `WrongShape` where
+/// another statement or none stands there, where the pattern is for no sum and no product, or has no match.
 #[derive(Drop)]
 pub struct Commuting<'a> {
     /// Which one, among those of the right side.
     pub pattern: &'a ExprPattern,
 }
 
-impl Operator for Commuting<'_> {
+impl Plain for Commuting<'_> {
     ghost rule = { λ o. commute_rule (plain_expr_pattern o.pattern.now) };
+
+    ghost is_plain = { λ o. refl };
 
     ghost lawful = { λ o. commute_is_lawful (plain_expr_pattern o.pattern.now) };
 
     ghost carrying = { λ o. commute_is_carrying (plain_expr_pattern o.pattern.now) };
+}
 
+impl OnPiece for Commuting<'_> {
     fn piece(&self, alloc: Global, on: &Target<'_>, at: &Path) -> Result<Piece, StepError> {
         let piece = Piece::one(at);
         commuted_block(alloc, self.pattern, on, &piece)?;
         Ok(piece)
     }
 
-    fn draft(
+    fn made(
         &self,
         alloc: Global,
         on: &Target<'_>,
@@ -121,14 +121,6 @@ impl Operator for Commuting<'_> {
         _fresh: &mut Fresh,
     ) -> Result<Block, StepError> {
         commuted_block(alloc, self.pattern, on, piece)
-    }
-
-    fn named(&self) -> u16 {
-        0
-    }
-
-    fn refusal(&self, _alloc: Global, _on: &Target<'_>, _piece: &Piece) -> Result<(), StepError> {
-        Ok(())
     }
 
     fn needs(
@@ -140,38 +132,7 @@ impl Operator for Commuting<'_> {
         Ok(Vec::new(alloc))
     }
 
-    fn shifts(
-        &self,
-        alloc: Global,
-        _on: &Target<'_>,
-        _piece: &Piece,
-    ) -> Result<Shifts, AllocError> {
+    fn moved(&self, alloc: Global, _on: &Target<'_>, _piece: &Piece) -> Result<Shifts, AllocError> {
         stays(alloc, 1)
     }
-
-    fn name(&self, alloc: Global, p: &Proc) -> Result<Name, AllocError> {
-        p.name.duplicate(alloc)
-    }
-
-    fn exit(&self, alloc: Global, _on: &Target<'_>, _piece: &Piece) -> Result<Exit, AllocError> {
-        Ok(Exit::unchanged(alloc))
-    }
-}
-
-/// The procedure with the sides of a match exchanged in the assignment or reduction at a path. `WrongShape` where
-/// another statement or none stands there, where the pattern is for no sum and no product, or has no match.
-pub fn commute_expr(
-    alloc: Global,
-    on: &Target<'_>,
-    at: &Path,
-    pattern: &ExprPattern,
-) -> Result<Proposal, StepError>
-    requires modes { table_says on.now.modes.now ≡ modes_of (program on.now.unit.now) }
-    requires target { IsTarget (target on.now) }
-    ensures answer { Tries plain_proposal (proposed (commute_rule (plain_expr_pattern pattern.now)) (target on.now) at.now) result }
-    ensures kept { IfOk result (λ m. IsKept (target on.now) (plain_proposal m)) }
-    ensures meaning { IfOk result (λ m. KeepsMeaning (target on.now) (plain_proposal m)) }
-    ensures moves { IfOk result (λ m. Moves (target on.now) (plain_proposal m)) }
-{
-    propose(alloc, on, at, &Commuting { pattern })
 }

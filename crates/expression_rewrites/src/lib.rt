@@ -8,6 +8,6 @@ mod exchange;
 mod leaving;
 mod renaming;
 
-pub use commuting::{Commuting, commute_expr};
-pub use deleting::{Deleting, delete_pass};
-pub use renaming::{Renaming, rename};
+pub use commuting::Commuting;
+pub use deleting::Deleting;
+pub use renaming::Renaming;

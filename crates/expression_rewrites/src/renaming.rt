@@ -1,24 +1,16 @@
 //! Another name for a procedure.
-ghost use Rattle.std.specs.Prelude.{◌≡◌, [], IfOk};
-ghost use Rattle.exo_tree.specs.PlainUnit.{program};
-ghost use Rattle.exo_modes.specs.Marks.{modes_of};
-ghost use Rattle.exo_modes.specs.Seen.{table_says};
-ghost use Rattle.cursor_forward.specs.PlainProposal.{plain_proposal};
-ghost use Rattle.step_rules.specs.Answer.{proposed};
-ghost use Rattle.step_rules.specs.Lawful.{IsTarget};
 ghost use Rattle.proc_laws.specs.Expression.Rename.{rename_rule};
 ghost use Rattle.proc_laws.proofs.OfExpression.Rename.{rename_is_lawful, rename_is_carrying};
-ghost use Rattle.step_driver.specs.Outcomes.{Tries, IsKept, KeepsMeaning, Moves};
-ghost use Rattle.step_driver.specs.PlainTarget.{target};
 
-use cursor_forward::{Proposal, Shifts, StepError};
+use cursor_forward::{Shifts, StepError};
 use exo_tree::{Block, Name, Path, Proc};
 use made_trees::Fresh;
 use std::alloc::{AllocError, Global};
-use step_driver::{Exit, Operator, Piece, Target, Writing, propose};
+use step_driver::{Exit, Operator, Piece, Target, Writing};
 use step_needs::Need;
 
-/// The step that gives a procedure another name. No statement is replaced.
+/// The step that gives a procedure another name, which is not looked at: whether it is one that a procedure may have is the
+/// caller's to ask. No statement is replaced.
 #[derive(Drop)]
 pub struct Renaming<'a> {
     pub name: &'a Name,
@@ -79,17 +71,4 @@ impl Operator for Renaming<'_> {
     fn exit(&self, alloc: Global, _on: &Target<'_>, _piece: &Piece) -> Result<Exit, AllocError> {
         Ok(Exit::unchanged(alloc))
     }
-}
-
-/// The procedure under another name, which is not looked at: whether it is one that a procedure may have is the
-/// caller's to ask.
-pub fn rename(alloc: Global, on: &Target<'_>, name: &Name) -> Result<Proposal, StepError>
-    requires modes { table_says on.now.modes.now ≡ modes_of (program on.now.unit.now) }
-    requires target { IsTarget (target on.now) }
-    ensures answer { Tries plain_proposal (proposed (rename_rule name.now) (target on.now) []) result }
-    ensures kept { IfOk result (λ m. IsKept (target on.now) (plain_proposal m)) }
-    ensures meaning { IfOk result (λ m. KeepsMeaning (target on.now) (plain_proposal m)) }
-    ensures moves { IfOk result (λ m. Moves (target on.now) (plain_proposal m)) }
-{
-    propose(alloc, on, &Path::new(), &Renaming { name })
 }

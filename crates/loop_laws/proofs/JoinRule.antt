@@ -39,14 +39,17 @@ use Rattle.step_rules.specs.Shapes.{tried}
 use Rattle.step_rules.specs.Lawful.{IsMet, Site, IsSite, AtHole, around, old, world_of, same}
 use Rattle.step_rules.specs.Lawful.{scope_here, callees_for, IsLawful, IsCarrying}
 use Rattle.step_rules.proofs.Meaning.{ids_are_below}
+use Rattle.step_rules.proofs.Proposals.{unless_got}
 use Rattle.step_rules.proofs.Shapes.{made_of, or_pass_next}
-use Rattle.loop_laws.specs.Shapes.{loop_in}
+use Rattle.loop_laws.specs.Shapes.{loop_in, listed_of}
+use Rattle.loop_laws.specs.Bounds.{bounds_differ}
+use Rattle.loop_laws.proofs.Bounds.{bounds_agree}
 use Rattle.loop_laws.proofs.Sites.{found_then, block_of, is_below, bounds_plain, loop_lacks}
 use Rattle.loop_laws.proofs.Sites.{lacking_loop, given_unused}
 use Rattle.loop_laws.proofs.UnrollLoop.{then_got, same_got}
 use Rattle.loop_laws.specs.JoinLoops.{Neighbours, neighbours, have_one_body, meet_in_variables}
 use Rattle.loop_laws.specs.JoinLoops.{with_one_body, where_they_meet, joining, joined_loop, join_needs}
-use Rattle.loop_laws.specs.JoinLoops.{joining_at, listed_of, join_rule}
+use Rattle.loop_laws.specs.JoinLoops.{joining_at, join_rule}
 use Rattle.loop_laws.proofs.JoinLoops.{numbers_agree, one_turn, join_same}
 
 -- ---- what is read
@@ -109,15 +112,8 @@ with_one_body_is base m n h = by (have_one_body base m) (meet_in_variables m) re
 where_they_meet_is : (m n : Neighbours) → where_they_meet m ≡ Got n
     → (m ≡ n) × (agree extent_reading m.second.lo m.first.hi ≡ true)
 where_they_meet_is m n h =
-    by (agreement_fits extent_reading m.second.lo m.first.hi)
-    (agree extent_reading m.second.lo m.first.hi) refl h
-  where
-    by : (s t : Bool) → agree extent_reading m.second.lo m.first.hi ≡ t
-        → (if s then (if t then Got m else Not WrongShape) else Not (Form WideNumber)) ≡ Got n
-        → (m ≡ n) × (agree extent_reading m.second.lo m.first.hi ≡ true)
-    by true true q h = (same_got h, q)
-    by true false q h = cc
-    by false t q h = cc
+    let u = unless_got (bounds_differ m.second.lo m.first.hi) (Got m) n h in
+    (same_got u.1, bounds_agree m.second.lo m.first.hi u.0)
 
 joining_found : (base : ℕ) (b : Block) (n : Neighbours) → joining base b ≡ Got n
     → IsJoining base b n

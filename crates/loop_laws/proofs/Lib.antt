@@ -22,6 +22,7 @@ pub mod CopyExamples
 pub mod LaterExamples
 pub mod ShiftInstances
 pub mod SameTrees
+pub mod Bounds
 pub mod JoinLoops
 pub mod JoinRule
 pub mod JoinExamples

@@ -1,5 +1,5 @@
 -- `unroll_loop` on closed procedures. In these x, n, i and t have ids 0 to 3.
-use Rattle.std.proofs.Common.{◌≡◌, ℕ, pos, List, [], ◌∷◌, Some, refl}
+use Rattle.std.proofs.Common.{◌≡◌, ℕ, zero, suc, pos, false, List, [], ◌∷◌, Some, refl}
 use Rattle.std.specs.Fmt.{digits}
 use Rattle.std.proofs.Math.Nat.{not-suc-le-zero}
 use Rattle.exo_tree.specs.Tree.{I32, Control, Lit, Var, Neg, Add, Sub, Mul, Const, Read, Assign}
@@ -18,7 +18,7 @@ use Rattle.step_rules.specs.Answer.{proposed}
 use Rattle.step_rules.specs.Lawful.{IsTarget}
 use Rattle.step_rules.specs.Laws.{MeaningLaw, ForwardsLaw}
 use Rattle.loop_laws.specs.Shapes.{inside}
-use Rattle.loop_laws.specs.UnrollLoop.{few_between, unroll_rule}
+use Rattle.loop_laws.specs.UnrollLoop.{few_between, are_too_many, unroll_rule}
 use Rattle.loop_laws.proofs.SmallUnits.{binder, of_body, unit_of, unit_is, target_of, planned}
 use Rattle.loop_laws.proofs.UnrollLoop.{unroll_is_lawful, unroll_is_carrying}
 
@@ -106,6 +106,25 @@ pub too_many_turns :
     proposed unroll_rule (target_of (stores_between (literal 0) (literal 257))) (at_index 0)
     ≡ Not LimitPassed
 too_many_turns = refl
+
+-- 257 statements in 256 turns are too many by themselves
+abbrev passes : ℕ → Block
+passes zero = end
+passes (suc n) = next Pass (passes n)
+
+pub too_many_statements :
+    proposed unroll_rule (target_of (loop (literal 0) (literal 256) (passes 257))) (at_index 0)
+    ≡ Not LimitPassed
+too_many_statements = refl
+
+-- of a body that leaves a name nothing is said by their number
+pub names_before_limits : are_too_many (record {
+  binder = binder 2 105;
+  lo = literal 0;
+  hi = literal 256;
+  body = loads 3 (116 ∷ []) (Var 2) (passes 257);
+}) (range (pos 0) 256) ≡ false
+names_before_limits = refl
 
 pub as_many_as_may_be : few_between (pos 0) (pos 256) ≡ Got (range (pos 0) 256)
 as_many_as_may_be = refl

@@ -41,6 +41,7 @@ use Rattle.loop_laws.specs.Copies.{bodies_with, written_out, Writes, AreBelow}
 use Rattle.loop_laws.specs.Shapes.{loop_of}
 use Rattle.loop_laws.specs.UnrollLoop.{with_affine_bounds, bound_fits, bound_form, constant_of}
 use Rattle.loop_laws.specs.UnrollLoop.{few_between, few_turns, turns_of, Unrolling, unrolling}
+use Rattle.loop_laws.specs.UnrollLoop.{are_too_many, with_few}
 use Rattle.loop_laws.specs.UnrollLoop.{turns_written, into_first, unroll_shifts, unroll_rule}
 use Rattle.loop_laws.proofs.Copies.{turns_may_be_written_out, loops_of_no_turn_may_go}
 use Rattle.loop_laws.proofs.Bones.{same_bones, same_length, all_parted}
@@ -177,16 +178,24 @@ constants_found l ns h =
     by true None y p q h = cc
     by false x y p q h = cc
 
+few_found : (l : Loop) (ns : List ℤ) (u : Unrolling) → with_few l ns ≡ Got u
+    → record { loop = l; turns = ns } ≡ u
+few_found l ns u h = by (are_too_many l ns) h
+  where
+    by : (t : Bool) → (if t then Not LimitPassed else Got (record { loop = l; turns = ns })) ≡ Got u
+        → record { loop = l; turns = ns } ≡ u
+    by true h = cc
+    by false h = same_got h
+
 unrolling_found : (b : Block) (u : Unrolling) → unrolling b ≡ Got u → IsUnrolling b u
 unrolling_found b u h =
     let first = then_got (tried (option_and_then with_affine_bounds (loop_of b)) (λ l. l))
-    (λ l. then_try (turns_of l) (λ ns. Got (record { loop = l; turns = ns }))) u h in
+    (λ l. then_try (turns_of l) (with_few l)) u h in
     let m = made_of (option_and_then with_affine_bounds (loop_of b)) (λ l. l) first.0 first.1 in
     let k = found_then (loop_of b) with_affine_bounds m.of m.found in
     let affine = affine_found k.0 m.of k.2 in
-    let second = then_got (turns_of first.0) (λ ns. Got (record { loop = first.0; turns = ns })) u
-    first.2 in
-    subst (IsUnrolling b) (same_got second.2)
+    let second = then_got (turns_of first.0) (with_few first.0) u first.2 in
+    subst (IsUnrolling b) (few_found first.0 second.0 u second.2)
     (known first.0 second.0
     (loop_of_is b first.0 (k.1 ∙ ap Some (affine.same ∙ m.made)))
     (subst (λ (l : Loop). is_affine variables l.lo ≡ true) m.made affine.lo)

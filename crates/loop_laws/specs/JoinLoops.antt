@@ -8,18 +8,16 @@ use Rattle.exo_tree.specs.Renaming.{fresh}
 use Rattle.meaning_laws.specs.Facts.{Holds}
 use Rattle.place_laws.specs.Scope.UnrollLoop.{only_loop}
 use Rattle.affine_forms.specs.Forms.{is_affine}
-use Rattle.affine_places.specs.Agreement.{agree, agreement_fits}
-use Rattle.affine_places.specs.Readings.{extent_reading}
 use Rattle.affine_places.specs.Roots.{variables}
 use Rattle.made_trees.specs.Ids.{next_id}
-use Rattle.cursor_forward.specs.Causes.{WrongShape, Form, WideNumber}
 use Rattle.cursor_forward.specs.Shifts.{stays}
 use Rattle.place_laws.specs.Order.TurnsOfTwo.{Loop}
-use Rattle.step_rules.specs.Rule.{Tried, Got, Not, Target, Piece, Need, Says, Spot, Rule}
+use Rattle.step_rules.specs.Rule.{Tried, Got, Target, Piece, Need, Says, Spot, Rule}
 use Rattle.step_rules.specs.Rule.{plain_rule}
-use Rattle.step_rules.specs.Answer.{then_try, opened_or_wrong}
+use Rattle.step_rules.specs.Answer.{then_try, unless, opened_or_wrong}
 use Rattle.step_rules.specs.Shapes.{tried}
-use Rattle.loop_laws.specs.Shapes.{loop_in}
+use Rattle.loop_laws.specs.Shapes.{loop_in, listed_of}
+use Rattle.loop_laws.specs.Bounds.{bounds_differ}
 use Rattle.loop_laws.specs.SameTrees.{same_block}
 
 -- ---- two loops
@@ -57,10 +55,7 @@ with_one_body base n = if have_one_body base n && meet_in_variables n then Some 
 
 -- the second begins where the first ends
 abbrev pub where_they_meet : Neighbours → Tried Neighbours
-where_they_meet n =
-    if agreement_fits extent_reading n.second.lo n.first.hi
-    then (if agree extent_reading n.second.lo n.first.hi then Got n else Not WrongShape)
-    else Not (Form WideNumber)
+where_they_meet n = unless (bounds_differ n.second.lo n.first.hi) (Got n)
 
 -- base: above all numbers of the procedure
 abbrev pub joining : ℕ → Block → Tried Neighbours
@@ -79,10 +74,6 @@ join_needs at n =
 
 abbrev pub joining_at : Spot → Tried Neighbours
 joining_at s = joining (next_id s.target.proc) s.opened.piece
-
-abbrev pub listed_of : {T : Type 0} → (Neighbours → List T) → Tried Neighbours → List T
-listed_of list (Got n) = list n
-listed_of list (Not cause) = []
 
 abbrev pub join_piece : Target → Path → Tried Piece
 join_piece t at =

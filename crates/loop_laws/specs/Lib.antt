@@ -1,4 +1,5 @@
 pub mod Shapes
+pub mod Bounds
 pub mod Turns
 pub mod CutLoop
 pub mod DivideLoop

@@ -8,7 +8,7 @@ use Rattle.exo_tree.specs.Tree.{Block}
 use Rattle.exo_tree.specs.Places.{Main, Path}
 use Rattle.cursor_forward.specs.Shifts.{Shift, at_index}
 use Rattle.place_laws.specs.Order.TurnsOfTwo.{Loop}
-use Rattle.step_rules.specs.Rule.{Spot, Rule, plain_rule}
+use Rattle.step_rules.specs.Rule.{Tried, Got, Not, Spot, Rule, plain_rule}
 use Rattle.step_rules.specs.Shapes.{tried, alone_in, one_statement}
 
 -- ---- one loop
@@ -50,6 +50,11 @@ from_zero l = if is_zero l.lo then Some l else None
 -- what is listed of the loop that is read of the piece
 abbrev pub listed : {T : Type 0} → (Block → Option Loop) → (Loop → List T) → Spot → List T
 listed read list s = elim (read s.opened.piece) [ None ↦ [] | Some l ↦ list l ]
+
+-- the same of anything that is found, or refused
+abbrev pub listed_of : {U T : Type 0} → (U → List T) → Tried U → List T
+listed_of list (Got x) = list x
+listed_of list (Not cause) = []
 
 -- a rule on the loop that is read of a block: what stands for it, by the first new id, and where
 -- its statements go. It refuses nothing but the shape, and needs nothing to be shown

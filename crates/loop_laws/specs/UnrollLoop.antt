@@ -1,7 +1,10 @@
 -- The rule that writes out the turns of a loop whose bounds are constants.
-use Rattle.std.specs.Prelude.{ℕ, nat_lt, ℤ, ◌-ℤ◌, Bool, ◌&&◌, if◌then◌else◌, List, [], ◌∷◌}
+use Rattle.std.specs.Prelude.{ℕ, ◌*◌, nat_lt, ℤ, ◌-ℤ◌, Bool, true, false, not, ◌&&◌, ◌||◌}
+use Rattle.std.specs.Prelude.{if◌then◌else◌, List, [], ◌∷◌}
 use Rattle.std.specs.Prelude.{length, Option, Some, None, option_and_then}
-use Rattle.exo_tree.specs.Tree.{Control, Pass, Block, end, next, statements}
+use Rattle.exo_tree.specs.Tree.{Control, Statement, Assign, Reduce, Config, Pass, If, For, Alloc}
+use Rattle.exo_tree.specs.Tree.{View, Call, Block, end, next, statements}
+use Rattle.exo_tree.specs.Nodes.{nodes_in}
 use Rattle.exo_tree.specs.Places.{Path, opened}
 use Rattle.exo_meaning.specs.Run.{count}
 use Rattle.exo_meaning.specs.Run as run
@@ -60,11 +63,35 @@ pub record Unrolling : Type 0 where
   pub loop : Loop
   pub turns : List ℤ
 
+-- to those behind it in its block
+abbrev pub leaves_name : Statement → Bool
+leaves_name (Assign x is e) = false
+leaves_name (Reduce x is e) = false
+leaves_name (Config f a) = false
+leaves_name Pass = false
+leaves_name (If c a b) = false
+leaves_name (For i lo hi b) = false
+leaves_name (Alloc x cell dims memory) = true
+leaves_name (View w x coords) = true
+leaves_name (Call k args) = false
+
+abbrev pub leave_names : Block → Bool
+leave_names end = false
+leave_names (next a b) = leaves_name a || leave_names b
+
+-- all turns together have more statements than a procedure may have; where the body leaves names,
+-- one of its copies may be taken, which is told before a limit
+abbrev pub are_too_many : Loop → List ℤ → Bool
+are_too_many l ns = nat_lt 65536 (length ns * nodes_in l.body) && not (leave_names l.body)
+
+abbrev pub with_few : Loop → List ℤ → Tried Unrolling
+with_few l ns = if are_too_many l ns then Not LimitPassed else Got (record { loop = l; turns = ns })
+
 -- of a loop that is all of a block
 abbrev pub unrolling : Block → Tried Unrolling
 unrolling b =
     then_try (tried (option_and_then with_affine_bounds (loop_of b)) (λ l. l)) (λ l.
-    then_try (turns_of l) (λ ns. Got (record { loop = l; turns = ns })))
+    then_try (turns_of l) (with_few l))
 
 -- the turns one after the other, each a copy of the body with its number in the place of the
 -- variable; a `pass` where there is none

@@ -1,5 +1,7 @@
 -- The turns of a loop whose bounds are constants.
-use Rattle.std.proofs.Common.{◌≡◌, ◌≤◌, ◌≤ℤ◌, ◌<ℤ◌, ℕ, ℤ, pos, negsuc, ◌-ℤ◌, ◌^◌, Bool, true, false}
+use Rattle.std.proofs.Common.{◌≡◌, ◌≤◌, ◌≤ℤ◌, ◌<ℤ◌, ℕ, zero, suc, ◌<◌, ◌*◌, ◌-◌, min, nat_le, ℤ}
+use Rattle.std.proofs.Common.{pos, negsuc}
+use Rattle.std.proofs.Common.{◌-ℤ◌, ◌+ℤ◌, ◌^◌, Bool, true, false, List, length}
 use Rattle.std.proofs.Common.{◌&&◌, if◌then◌else◌, Option, Some, None, Result, Ok, Err}
 use Rattle.std.proofs.Common.{refl, ap, ap₂, sym, ◌∙◌, subst, arith}
 use Rattle.std.proofs.lemmas.Bool.Decides.{nat_tests}
@@ -15,16 +17,18 @@ use Rattle.affine_forms.specs.TermBounds.{is_none}
 use Rattle.affine_forms.specs.declared.error.FormError.{FormError}
 use Rattle.affine_forms.specs.declared.error.FormError.TheVariants as form
 use Rattle.place_laws.specs.Order.TurnsOfTwo.{Loop}
-use Rattle.cursor_forward.specs.Causes.{WrongShape, LimitPassed, Form, WideNumber}
+use Rattle.cursor_forward.specs.Causes.{Cause, WrongShape, LimitPassed, Form, WideNumber}
 use Rattle.cursor_forward.specs.PlainProposal.{cause_of, fault_of}
 use Rattle.cursor_forward.specs.declared.proposal.StepError.{StepError}
+use Rattle.tree_rules.specs.Seen.{capped_number}
 use Rattle.step_rules.specs.Rule.{Tried, Got, Not}
 use Rattle.step_rules.specs.Answer.{then_try}
 use Rattle.step_rules.specs.Shapes.{tried}
 use Rattle.step_driver.specs.Outcomes.{Tries, RefusedBy}
 use Rattle.loop_laws.specs.Shapes.{loop_of}
 use Rattle.loop_laws.specs.UnrollLoop.{Unrolling, unrolling, with_affine_bounds, bound_fits, bound_form}
-use Rattle.loop_laws.specs.UnrollLoop.{constant_of, few_between, few_turns, turns_of}
+use Rattle.loop_laws.specs.UnrollLoop.{constant_of, few_between, few_turns, turns_of, with_few}
+use Rattle.loop_laws.proofs.UnrollLoop.{same_got}
 use Rattle.loop_rewrites.specs.PlainTurns.{with_turns, bounds_are_affine}
 
 -- ---- constants
@@ -107,18 +111,80 @@ few_listed lo hi n h e =
     few (pos n) k = grind (arith, ints, nat_tests)
     few (negsuc n) k = refl
 
+-- ---- all turns together
+
+length_of_range : (first : ℤ) (n : ℕ) → length (range first n) ≡ n
+length_of_range first zero = refl
+length_of_range first (suc n) = ap suc (length_of_range (first +ℤ pos 1) n)
+
+less : (a b : ℕ) → a < b → nat_lt a b ≡ true
+less a b h = grind (arith, nat_tests)
+
+large : (n z : ℕ) → 65536 < z → nat_lt 65536 (suc n * z) ≡ true
+large n z h = less 65536 (suc n * z) (omega (arith, h))
+
+within : (m : ℕ) → nat_le m (2 ^ 64 - 1) ≡ true → min m (2 ^ 64 - 1) ≡ m
+within m h = grind (arith, nat_tests)
+
+beyond : (m : ℕ) → nat_le m (2 ^ 64 - 1) ≡ false → 2 ^ 64 - 1 ≤ m
+beyond m h = grind (arith, nat_tests)
+
+capped_beyond : (m : ℕ) → 2 ^ 64 - 1 ≤ m → 65536 < min m (2 ^ 64 - 1)
+capped_beyond m h = omega (arith, h)
+
+-- a count that stops at the greatest number of 64 bits tells as well
+pub many_together : (first : ℤ) (n m : ℕ)
+    → nat_lt 65536 (n * capped_number m) ≡ nat_lt 65536 (length (range first n) * m)
+many_together first n m =
+    same n (nat_le m (2 ^ 64 - 1)) refl
+    ∙ ap (λ k. nat_lt 65536 (k * m)) (sym (length_of_range first n))
+  where
+    same : (k : ℕ) (t : Bool) → nat_le m (2 ^ 64 - 1) ≡ t
+        → nat_lt 65536 (k * capped_number m) ≡ nat_lt 65536 (k * m)
+    same zero t h =
+        let a : 0 * capped_number m ≡ 0 = omega arith in
+        let b : 0 * m ≡ 0 = omega arith in
+        ap (nat_lt 65536) (a ∙ sym b)
+    same (suc k) true h = ap (λ x. nat_lt 65536 (suc k * x)) (within m h)
+    same (suc k) false h =
+        let low : 65536 < m = omega (arith, beyond m h) in
+        large k (capped_number m) (capped_beyond m (beyond m h)) ∙ sym (large k m low)
+
 -- ---- at a piece
 
 abbrev read : Option Loop → Tried Unrolling
-read x = then_try (tried (option_and_then with_affine_bounds x) (λ l. l)) (λ l. with_turns l (turns_of l))
+read x =
+    then_try (tried (option_and_then with_affine_bounds x) (λ l. l)) (λ l.
+    then_try (turns_of l) (with_few l))
 
 abbrev read_where : Loop → Bool → Tried Unrolling
-read_where l t = then_try (tried (if t then Some l else None) (λ k. k)) (λ k. with_turns k (turns_of k))
+read_where l t =
+    then_try (tried (if t then Some l else None) (λ k. k)) (λ k. then_try (turns_of k) (with_few k))
 
 -- a loop with affine bounds is unrolled by its turns
+by_turns : (b : Block) (l : Loop) → Some l ≡ loop_of b → bounds_are_affine l ≡ true
+    → then_try (turns_of l) (with_few l) ≡ unrolling b
+by_turns b l e h = sym (ap (read_where l) h) ∙ ap read e
+
 pub turned : (b : Block) (l : Loop) → Some l ≡ loop_of b → bounds_are_affine l ≡ true
-    → with_turns l (turns_of l) ≡ unrolling b
-turned b l e h = sym (ap (read_where l) h) ∙ ap read e
+    → (u : Unrolling) → with_turns l (turns_of l) ≡ Got u
+    → with_few u.loop u.turns ≡ unrolling b
+turned b l e h u k = by (turns_of l) k ∙ by_turns b l e h
+  where
+    by : (t : Tried (List ℤ)) → with_turns l t ≡ Got u
+        → with_few u.loop u.turns ≡ then_try t (with_few l)
+    by (Got ns) q = ap (λ (v : Unrolling). with_few v.loop v.turns) (sym (same_got q))
+    by (Not cause) q = cc
+
+pub not_turned : (b : Block) (l : Loop) → Some l ≡ loop_of b → bounds_are_affine l ≡ true
+    → (why : Option Cause) → RefusedBy (with_turns l (turns_of l)) why → RefusedBy (unrolling b) why
+not_turned b l e h why k = subst (λ t. RefusedBy t why) (by_turns b l e h) (by (turns_of l) why k)
+  where
+    by : (t : Tried (List ℤ)) (why : Option Cause) → RefusedBy (with_turns l t) why
+        → RefusedBy (then_try t (with_few l)) why
+    by t None q = tt
+    by (Got ns) (Some cause) q = cc
+    by (Not c) (Some cause) q = q
 
 pub not_affine : (b : Block) (l : Loop) → Some l ≡ loop_of b → bounds_are_affine l ≡ false
     → unrolling b ≡ Not WrongShape

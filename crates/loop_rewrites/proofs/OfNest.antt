@@ -5,3 +5,5 @@ pub mod Pairs
 pub mod Written
 pub mod Same
 pub mod Neighbouring
+pub mod Listed
+pub mod Fused

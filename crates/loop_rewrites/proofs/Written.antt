@@ -8,7 +8,7 @@ use Rattle.exo_tree.specs.Substitution.{in_block}
 use Rattle.exo_meaning.specs.Run.{range}
 use Rattle.place_laws.specs.Order.TurnsOfTwo.{Loop}
 use Rattle.loop_laws.specs.Copies.{written_out}
-use Rattle.loop_rewrites.proofs.OfShapes.Made.{joined_blocks}
+use Rattle.step_targets.proofs.Made.{joined_blocks}
 
 joined_assoc : (a b c : Block) → joined (joined a b) c ≡ joined a (joined b c)
 joined_assoc end b c = refl

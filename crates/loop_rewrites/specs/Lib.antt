@@ -1,5 +1,5 @@
+pub mod Fits
 pub mod PlainTail
 pub mod PlainPair
 pub mod PlainTurns
-pub mod Shapes
 pub mod Nest

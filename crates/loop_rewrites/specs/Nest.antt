@@ -1,4 +1,3 @@
-pub mod Agreement
 pub mod PlainNest
 pub mod PlainTwo
 pub mod PlainParting

@@ -1,6 +1,6 @@
 -- The plain form of a pair of loops.
 use Rattle.loop_laws.specs.MultLoops.{Pair}
-use Rattle.loop_rewrites.specs.Shapes.PlainLoop.{plain_loop}
+use Rattle.step_targets.specs.PlainLoop.{plain_loop}
 use Rattle.loop_rewrites.specs.declared.pairs.PairAt.{PairAt}
 
 abbrev pub plain_pair : PairAt → Pair

@@ -7,7 +7,7 @@ use Rattle.place_laws.specs.Order.TurnsOfTwo.{Loop}
 use Rattle.step_rules.specs.Rule.{Tried, Got}
 use Rattle.step_rules.specs.Answer.{then_try}
 use Rattle.loop_laws.specs.UnrollLoop.{Unrolling}
-use Rattle.loop_rewrites.specs.Shapes.PlainLoop.{plain_loop}
+use Rattle.step_targets.specs.PlainLoop.{plain_loop}
 use Rattle.loop_rewrites.specs.declared.turns.Turns.{Turns}
 
 abbrev pub plain_turns : Turns → Unrolling

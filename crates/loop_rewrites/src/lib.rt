@@ -1,4 +1,4 @@
-//! Rewrites of loops and of the order of turns, and what operators find at their places.
+//! Rewrites of loops and of the order of turns.
 #![tactic(auto)]
 
 mod constants;
@@ -8,16 +8,16 @@ mod multiplying;
 pub mod nest;
 mod numbers;
 mod pairs;
-pub mod shapes;
 mod shifting;
 mod specializing;
+mod together;
 mod turns;
 mod unrolling;
 mod zero;
 
-pub use cutting::{Cutting, cut_loop};
-pub use dividing::{Dividing, Tail, divide_loop};
-pub use multiplying::{Multiplying, mult_loops};
-pub use shifting::{Shifting, shift_loop};
-pub use specializing::{Specializing, specialize};
-pub use unrolling::{Unrolling, unroll_loop};
+pub use cutting::Cutting;
+pub use dividing::{Dividing, Tail};
+pub use multiplying::Multiplying;
+pub use shifting::Shifting;
+pub use specializing::Specializing;
+pub use unrolling::Unrolling;

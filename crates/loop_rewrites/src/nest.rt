@@ -13,7 +13,7 @@ mod same;
 mod steady;
 mod two;
 
-pub use fissioning::{Fissioning, fission};
-pub use fusing::{Fusing, fuse};
-pub use joining::{Joining, join_loops};
-pub use reordering::{Reordering, reorder_loops};
+pub use fissioning::Fissioning;
+pub use fusing::Fusing;
+pub use joining::Joining;
+pub use reordering::Reordering;

@@ -24,7 +24,8 @@ fn sum(alloc: Global, a: Box<Ctrl>, b: Ctrl) -> Result<Ctrl, AllocError>
 
 /// A sum of two copies, less a third one.
 pub(crate) fn sum_less(alloc: Global, a: &Ctrl, b: &Ctrl, c: &Ctrl) -> Result<Ctrl, AllocError>
-    ensures { IfOk result (λ e. control e ≡ tree.Sub (tree.Add (control a.now) (control b.now)) (control c.now)) }
+    ensures { IfOk result (λ e. control e
+        ≡ tree.Sub (tree.Add (control a.now) (control b.now)) (control c.now)) }
 {
     let all = sum(alloc, boxed(alloc, a)?, b.duplicate(alloc)?)?;
     let left = Box::new(alloc, all)?;
@@ -33,7 +34,8 @@ pub(crate) fn sum_less(alloc: Global, a: &Ctrl, b: &Ctrl, c: &Ctrl) -> Result<Ct
 
 /// The turn of that number behind so many groups.
 pub(crate) fn turn_behind(alloc: Global, by: i64, groups: Ctrl, x: Id) -> Result<Ctrl, AllocError>
-    ensures { IfOk result (λ e. control e ≡ tree.Add (tree.Mul (tree.Lit by) (control groups)) (tree.Var x.0)) }
+    ensures { IfOk result (λ e. control e
+        ≡ tree.Add (tree.Mul (tree.Lit by) (control groups)) (tree.Var x.0)) }
 {
     let right = Box::new(alloc, groups)?;
     let left = Box::new(alloc, Ctrl::Lit(by))?;
@@ -66,7 +68,8 @@ pub(crate) fn remainder(alloc: Global, turns: &Ctrl, by: i64) -> Result<Ctrl, Al
 /// How many groups there are, the last one whole or not.
 pub(crate) fn rounded_up(alloc: Global, turns: &Ctrl, by: i64) -> Result<Ctrl, AllocError>
     requires { pos 1 ≤ℤ by }
-    ensures { IfOk result (λ e. control e ≡ tree.Div (tree.Add (control turns.now) (tree.Lit (by -ℤ pos 1))) by) }
+    ensures { IfOk result (λ e. control e
+        ≡ tree.Div (tree.Add (control turns.now) (tree.Lit (by -ℤ pos 1))) by) }
 {
     let up = sum(alloc, boxed(alloc, turns)?, Ctrl::Lit(by - 1))?;
     Ok(Ctrl::Div(Box::new(alloc, up)?, by))

@@ -5,13 +5,13 @@ ghost use Rattle.exo_tree.specs.PlainControl.{control};
 ghost use Rattle.loop_laws.specs.MultLoops as plain;
 ghost use Rattle.step_driver.specs.PlainTarget.{target, plain_piece};
 ghost use Rattle.step_driver.specs.Spots.{spot_at};
-ghost use Rattle.loop_rewrites.specs.Shapes.PlainLoop.{plain_loop};
+ghost use Rattle.step_targets.specs.PlainLoop.{plain_loop};
 ghost use Rattle.loop_rewrites.specs.PlainPair.{plain_pair};
 
-use crate::shapes::{LoopAt, loop_at, loop_of};
 use crate::zero::zero_based;
 use exo_tree::{Block, Ctrl};
 use step_driver::{Piece, Target};
+use step_targets::{LoopAt, loop_at, loop_of};
 
 /// A loop over a loop of so many turns, both from 0 on.
 #[derive(Clone, Copy)]
@@ -43,7 +43,8 @@ fn loop_from_zero(b: &Block) -> Option<LoopAt<'_>>
 
 /// Both loops, where the inner one has a fixed number of turns.
 fn with_count<'a>(outer: LoopAt<'a>, inner: LoopAt<'a>) -> Option<PairAt<'a>>
-    ensures { option_map plain_pair result ≡ plain.with_count (plain_loop outer.entry) (plain_loop inner.entry) }
+    ensures { option_map plain_pair result
+        ≡ plain.with_count (plain_loop outer.entry) (plain_loop inner.entry) }
 {
     match positive_literal(inner.hi) {
         None => None,
@@ -53,7 +54,9 @@ fn with_count<'a>(outer: LoopAt<'a>, inner: LoopAt<'a>) -> Option<PairAt<'a>>
 
 /// The pair of a loop and of the one that is its body.
 fn pair_in(outer: LoopAt<'_>) -> Option<PairAt<'_>>
-    ensures { option_map plain_pair result ≡ option_and_then (plain.with_count (plain_loop outer.entry)) (plain.loop_from_zero (plain_loop outer.entry).body) }
+    ensures { option_map plain_pair result
+        ≡ option_and_then (plain.with_count (plain_loop outer.entry))
+        (plain.loop_from_zero (plain_loop outer.entry).body) }
 {
     match loop_from_zero(outer.body) {
         None => None,
@@ -63,7 +66,8 @@ fn pair_in(outer: LoopAt<'_>) -> Option<PairAt<'_>>
 
 /// The pair that is all of a piece; None exactly where there is none.
 pub(crate) fn pair_at<'a>(on: &Target<'a>, piece: &Piece) -> Option<PairAt<'a>>
-    ensures { option_map plain_pair result ≡ plain.pair_of (spot_at (target on.now) (plain_piece piece.now)).opened.piece }
+    ensures { option_map plain_pair result
+        ≡ plain.pair_of (spot_at (target on.now) (plain_piece piece.now)).opened.piece }
 {
     match loop_at(on, piece) {
         None => None,

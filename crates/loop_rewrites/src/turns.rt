@@ -1,7 +1,7 @@
 //! A loop with the numbers of its turns.
 ghost use Rattle.std.specs.Prelude.{◌≤◌, ◌^◌, unsigned_abs};
 
-use crate::shapes::LoopAt;
+use step_targets::LoopAt;
 
 /// A loop, with the number of its first turn and how many turns it has, at most 256.
 #[derive(Clone, Copy)]

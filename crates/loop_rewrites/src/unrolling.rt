@@ -1,35 +1,29 @@
 //! The step that writes out the turns of a loop.
-ghost use Rattle.std.specs.Prelude.{◌≡◌, ◌≤◌, ◌<◌, ◌+◌, ◌^◌, ◌+ℤ◌, pos, length, unsigned_abs, is_none, IfOk, OnOk};
+ghost use Rattle.std.specs.Prelude.{◌≡◌, ◌≤◌, ◌<◌, ◌+◌, ◌^◌, ◌+ℤ◌, pos, length, unsigned_abs};
+ghost use Rattle.std.specs.Prelude.{is_none, IfOk, OnOk, refl};
 ghost use Rattle.exo_tree.specs.Tree.{block};
 ghost use Rattle.exo_tree.specs.PlainControl.{control};
-ghost use Rattle.exo_tree.specs.PlainUnit.{program};
 ghost use Rattle.exo_tree.specs.Renaming as renaming;
 ghost use Rattle.exo_tree.specs.Renaming.{binders};
 ghost use Rattle.exo_tree.specs.Substitution.{in_block};
-ghost use Rattle.exo_modes.specs.Marks.{modes_of};
-ghost use Rattle.exo_modes.specs.Seen.{table_says};
 ghost use Rattle.match_laws.specs.Simplify.Simplified.{literal};
-ghost use Rattle.cursor_forward.specs.PlainProposal.{cause_of, plain_proposal};
-ghost use Rattle.step_rules.specs.Answer.{proposed};
-ghost use Rattle.step_rules.specs.Lawful.{IsTarget};
+ghost use Rattle.cursor_forward.specs.PlainProposal.{cause_of};
 ghost use Rattle.loop_laws.specs.Copies.{written_out};
 ghost use Rattle.loop_laws.specs.UnrollLoop as plain;
 ghost use Rattle.loop_laws.specs.UnrollLoop.{unroll_rule};
 ghost use Rattle.loop_laws.proofs.UnrollLoop.{unroll_is_lawful, unroll_is_carrying};
-ghost use Rattle.step_driver.specs.Outcomes.{Tries, IsKept, KeepsMeaning, Moves};
-ghost use Rattle.step_driver.specs.PlainTarget.{target};
 ghost use Rattle.loop_rewrites.specs.PlainTurns.{plain_turns};
 
 use crate::constants::turns_at;
-use crate::shapes::{all_moved, inside};
 use crate::turns::Turns;
 use affine_forms::FormError;
-use cursor_forward::{Proposal, Shifts, StepError};
-use exo_tree::{Block, Ctrl, Name, Path, Proc, Stmt, subst};
+use cursor_forward::{Shifts, StepError};
+use exo_tree::{Block, Ctrl, Path, Stmt, subst};
 use made_trees::Fresh;
 use std::alloc::{AllocError, Global};
-use step_driver::{Exit, Operator, Piece, Target, Writing, propose};
+use step_driver::{Piece, Target, Writing};
 use step_needs::Need;
+use step_targets::{OnPiece, Plain, all_moved, path_below};
 
 /// A number as an expression.
 #[tactic(auto, using(crate::proofs::Unrolled::literal_below, crate::proofs::Unrolled::literal_from))]
@@ -56,8 +50,14 @@ impl Turns<'_> {
     /// A copy of the body in the turn of a number.
     fn turn(&self, alloc: Global, n: i64, fresh: &mut Fresh) -> Result<Block, AllocError>
         requires { unsigned_abs n ≤ 2 ^ 62 + 256 }
-        ensures copy { IfOk result (λ b. block b ≡ renaming.fresh fresh.old (in_block (plain_turns self.now).loop.binder.id (literal n) (plain_turns self.now).loop.body)) }
-        ensures moved { OnOk result (fresh.new ≡ fresh.old + length (binders (in_block (plain_turns self.now).loop.binder.id (literal n) (plain_turns self.now).loop.body))) }
+        ensures copy { IfOk result (λ b. block b
+            ≡ renaming.fresh fresh.old
+            (in_block (plain_turns self.now).loop.binder.id (literal n)
+            (plain_turns self.now).loop.body)) }
+        ensures moved { OnOk result (fresh.new
+            ≡ fresh.old + length
+            (binders (in_block (plain_turns self.now).loop.binder.id (literal n)
+            (plain_turns self.now).loop.body))) }
     {
         let number = number_written(alloc, n)?;
         let l = self.looping;
@@ -67,7 +67,9 @@ impl Turns<'_> {
 
     /// Copies of the body, one for each turn.
     fn copies(&self, alloc: Global, fresh: &mut Fresh) -> Result<Block, AllocError>
-        ensures { IfOk result (λ b. block b ≡ written_out literal (plain_turns self.now).loop (plain_turns self.now).turns fresh.old) }
+        ensures { IfOk result (λ b. block b
+            ≡ written_out literal (plain_turns self.now).loop
+            (plain_turns self.now).turns fresh.old) }
     {
         let mut made = Block::new(alloc);
         for k in 0..self.count {
@@ -81,7 +83,9 @@ impl Turns<'_> {
     /// What stands in the place of the loop.
     #[tactic(auto, using(crate::proofs::Unrolled::some_written))]
     fn written(&self, alloc: Global, fresh: &mut Fresh) -> Result<Block, AllocError>
-        ensures { IfOk result (λ b. block b ≡ plain.turns_written (plain_turns self.now).loop (plain_turns self.now).turns fresh.old) }
+        ensures { IfOk result (λ b. block b
+            ≡ plain.turns_written (plain_turns self.now).loop
+            (plain_turns self.now).turns fresh.old) }
     {
         if self.count == 0 {
             return Block::single(alloc, Stmt::Pass);
@@ -92,12 +96,13 @@ impl Turns<'_> {
     /// Where the body goes: to the first copy.
     #[tactic(auto, using(crate::proofs::Unrolled::some_moved))]
     fn shifts(&self, alloc: Global) -> Result<Shifts, AllocError>
-        ensures { IfOk result (λ s. s ≡ plain.into_first (plain_turns self.now).loop (plain_turns self.now).turns) }
+        ensures { IfOk result (λ s. s
+            ≡ plain.into_first (plain_turns self.now).loop (plain_turns self.now).turns) }
     {
         if self.count == 0 {
             return Ok(Shifts::new(alloc));
         }
-        all_moved(alloc, self.looping.body, inside(1), inside(0))
+        all_moved(alloc, self.looping.body, path_below(1), path_below(0))
     }
 }
 
@@ -112,17 +117,25 @@ pub(crate) fn is_memory(error: &StepError) -> bool
     }
 }
 
-/// The step that writes out the turns of a loop whose bounds are constants.
+/// The step that writes out the turns of a loop whose bounds are constants: one after the other,
+/// each a copy of the body with its number in the place of the variable; a `pass` where there is
+/// none. `WrongShape` where no loop stands there, or a bound is no constant; `LimitPassed` where it
+/// has more than 256 turns or the result is too large, `Form` where a number of a bound is too
+/// wide.
 #[derive(Drop)]
 pub struct Unrolling;
 
-impl Operator for Unrolling {
+impl Plain for Unrolling {
     ghost rule = { λ o. unroll_rule };
+
+    ghost is_plain = { λ o. refl };
 
     ghost lawful = { λ o. unroll_is_lawful };
 
     ghost carrying = { λ o. unroll_is_carrying };
+}
 
+impl OnPiece for Unrolling {
     fn piece(&self, alloc: Global, on: &Target<'_>, at: &Path) -> Result<Piece, StepError> {
         let piece = Piece::one(at);
         turns_at(alloc, on, &piece)?;
@@ -130,7 +143,7 @@ impl Operator for Unrolling {
     }
 
     #[tactic(auto, using(crate::proofs::Unrolled::then_got, crate::proofs::Unrolled::then_refused))]
-    fn draft(
+    fn made(
         &self,
         alloc: Global,
         on: &Target<'_>,
@@ -140,14 +153,6 @@ impl Operator for Unrolling {
     ) -> Result<Block, StepError> {
         let turns = turns_at(alloc, on, piece)?;
         Ok(turns.written(alloc, fresh)?)
-    }
-
-    fn named(&self) -> u16 {
-        0
-    }
-
-    fn refusal(&self, _alloc: Global, _on: &Target<'_>, _piece: &Piece) -> Result<(), StepError> {
-        Ok(())
     }
 
     fn needs(
@@ -160,7 +165,7 @@ impl Operator for Unrolling {
     }
 
     #[tactic(auto, using(crate::proofs::Unrolled::moved_by, crate::proofs::Unrolled::nothing_moved))]
-    fn shifts(&self, alloc: Global, on: &Target<'_>, piece: &Piece) -> Result<Shifts, AllocError> {
+    fn moved(&self, alloc: Global, on: &Target<'_>, piece: &Piece) -> Result<Shifts, AllocError> {
         match turns_at(alloc, on, piece) {
             Ok(turns) => turns.shifts(alloc),
             Err(error) => {
@@ -171,26 +176,4 @@ impl Operator for Unrolling {
             }
         }
     }
-
-    fn name(&self, alloc: Global, p: &Proc) -> Result<Name, AllocError> {
-        p.name.duplicate(alloc)
-    }
-
-    fn exit(&self, alloc: Global, _on: &Target<'_>, _piece: &Piece) -> Result<Exit, AllocError> {
-        Ok(Exit::unchanged(alloc))
-    }
-}
-
-/// The procedure with the turns of the loop at a path one after the other, each a copy of the body with its number in the
-/// place of the variable; a `pass` where there is none. `WrongShape` where no loop stands there, or a bound is no constant;
-/// `LimitPassed` where it has more than 256 turns or the result is too large, `Form` where a number of a bound is too wide.
-pub fn unroll_loop(alloc: Global, on: &Target<'_>, at: &Path) -> Result<Proposal, StepError>
-    requires modes { table_says on.now.modes.now ≡ modes_of (program on.now.unit.now) }
-    requires target { IsTarget (target on.now) }
-    ensures answer { Tries plain_proposal (proposed unroll_rule (target on.now) at.now) result }
-    ensures kept { IfOk result (λ m. IsKept (target on.now) (plain_proposal m)) }
-    ensures meaning { IfOk result (λ m. KeepsMeaning (target on.now) (plain_proposal m)) }
-    ensures moves { IfOk result (λ m. Moves (target on.now) (plain_proposal m)) }
-{
-    propose(alloc, on, at, &Unrolling)
 }

@@ -5,14 +5,14 @@ ghost use Rattle.exo_tree.specs.Tree.{block};
 ghost use Rattle.exo_tree.specs.PlainControl.{control};
 ghost use Rattle.place_laws.specs.Scope.UnrollLoop as plain;
 ghost use Rattle.loop_laws.specs.Shapes as shapes;
-ghost use Rattle.loop_rewrites.specs.Shapes.PlainLoop.{plain_loop};
+ghost use Rattle.step_targets.specs.PlainLoop.{plain_loop};
 
-use crate::shapes::{LoopAt, only_loop};
 use exo_tree::{Binder, Block, Ctrl, Id, Name};
 use std::alloc::{AllocError, Global};
+use step_targets::{LoopAt, only_loop};
 
 /// Whether an expression is the literal 0.
-fn is_zero(e: &Ctrl) -> bool
+pub(crate) fn is_zero(e: &Ctrl) -> bool
     ensures { result ≡ shapes.is_zero (control e.now) }
 {
     match e {
@@ -36,7 +36,9 @@ pub(crate) fn from_zero(
     hi: Ctrl,
     body: Block,
 ) -> Result<Block, AllocError>
-    ensures { IfOk result (λ b. block b ≡ plain.only_loop (record { id = id.0; name = name.now }) (tree.Lit (pos 0)) (control hi) (block body)) }
+    ensures { IfOk result (λ b. block b
+        ≡ plain.only_loop (record { id = id.0; name = name.now }) (tree.Lit (pos 0))
+        (control hi) (block body)) }
 {
     let name = name.duplicate(alloc)?;
     only_loop(alloc, Binder { id, name }, Ctrl::Lit(0), hi, body)

@@ -1,5 +1,5 @@
 pub mod Above
 mod Counts
-mod Names
+mod Numbers
 mod Passes
 mod Scopes

@@ -1,4 +1,5 @@
 pub mod Ids
 pub mod Passes
 pub mod Names
+pub mod Numbers
 pub mod Walked

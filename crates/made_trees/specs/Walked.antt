@@ -1,12 +1,11 @@
 -- What a walk knows.
-use Rattle.std.specs.Prelude.{ℕ, nat_eq, if◌then◌else◌, List, [], ◌∷◌, map}
-use Rattle.std.specs.List.{starts_with}
+use Rattle.std.specs.Prelude.{List, map}
 use Rattle.exo_tree.specs.Tree as tree
 use Rattle.exo_tree.specs.declared.binder.Binder.{Binder}
 use Rattle.exo_tree.specs.PlainBinder.{binding}
 use Rattle.made_trees.specs.declared.naming.Walk.{Walk}
 use Rattle.made_trees.specs.declared.name.Tops as made
-use Rattle.made_trees.specs.Names.{Name, Naming, Tops}
+use Rattle.made_trees.specs.Names.{Naming, Tops}
 
 abbrev pub bindings : List Binder → List tree.Binder
 bindings bs = map binding bs
@@ -16,9 +15,3 @@ naming w = record { scope = w.scope.items; taken = w.taken.items; given = bindin
 
 abbrev pub top_level : made.Tops → Tops
 top_level t = record { own = t.own.items; all = t.all.items }
-
--- the names that begin with that one
-abbrev pub alike_names : List ℕ → List Name → List Name
-alike_names x [] = []
-alike_names x (y ∷ ys) =
-    if starts_with nat_eq y x then y ∷ alike_names x ys else alike_names x ys

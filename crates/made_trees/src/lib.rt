@@ -2,6 +2,7 @@
 #![tactic(auto)]
 
 mod copies;
+mod free;
 mod fresh;
 mod ids;
 mod name;

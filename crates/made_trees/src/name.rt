@@ -1,7 +1,5 @@
 //! Lists of names.
-ghost use Rattle.std.specs.Prelude.{◌≡◌, [], ◌∷◌, ◌++◌, map, codes, decimal, if◌then◌else◌};
-ghost use Rattle.std.specs.Prelude.{nat_eq, IfOk, OnOk};
-ghost use Rattle.std.specs.List.{starts_with};
+ghost use Rattle.std.specs.Prelude.{◌≡◌, [], ◌∷◌, ◌++◌, map, if◌then◌else◌, IfOk, OnOk};
 ghost use Rattle.exo_tree.specs.Tree.{block};
 ghost use Rattle.exo_tree.specs.PlainBinder.{binding};
 ghost use Rattle.exo_tree.specs.PlainParam.{parameter};
@@ -9,7 +7,7 @@ ghost use Rattle.exo_tree.specs.PlainStatement.{statement};
 ghost use Rattle.exo_meaning.specs.Units.{is_text};
 ghost use Rattle.made_trees.specs.Names as plain;
 ghost use Rattle.made_trees.specs.Names.{binder_names, names_below, names_of, own_name, top_name};
-ghost use Rattle.made_trees.specs.Walked.{alike_names, top_level};
+ghost use Rattle.made_trees.specs.Walked.{top_level};
 
 use exo_tree::{Binder, Block, Name, Param, Stmt};
 use std::alloc::{AllocError, Global};
@@ -31,50 +29,6 @@ pub(crate) fn is_in(names: &[Name], x: &str) -> bool
         }
     }
     false
-}
-
-/// The name with a number.
-fn numbered(alloc: Global, x: &str, k: usize) -> Result<Name, AllocError>
-    ensures { IfOk result (λ n. n ≡ plain.numbered x.now k) }
-{
-    let text = format!(in alloc; "{x}_{k}")?;
-    Ok(Name::new(alloc, text.as_str())?)
-}
-
-/// Whether a text begins with another.
-fn begins_with(text: &str, front: &str) -> bool
-    ensures { result ≡ starts_with nat_eq text.now front.now }
-{
-    text.starts_with(front)
-}
-
-/// Copies of the names that begin with that one: a name with a number stands among all where it
-/// stands among these.
-fn alike(alloc: Global, names: &[Name], x: &str) -> Result<Vec<Name>, AllocError>
-    ensures { IfOk result (λ near. near.items ≡ alike_names x.now names.now) }
-{
-    let mut near = Vec::new(alloc);
-    for name in names {
-        if begins_with(name.as_str(), x) {
-            put(&mut near, alloc, name)?;
-        }
-    }
-    Ok(near)
-}
-
-/// The name with the least number from 1 on that is not taken.
-pub(crate) fn free_name(alloc: Global, taken: &[Name], x: &str) -> Result<Name, AllocError>
-    ensures { IfOk result (λ n. n ≡ plain.free_name taken.now x.now) }
-{
-    let near = alike(alloc, taken, x)?;
-    let count = taken.len();
-    for k in 0..count {
-        let name = numbered(alloc, x, k + 1)?;
-        if !is_in(near.as_slice(), name.as_str()) {
-            return Ok(name);
-        }
-    }
-    numbered(alloc, x, count + 1)
 }
 
 /// Appends a copy of a name.

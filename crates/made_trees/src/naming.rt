@@ -9,7 +9,8 @@ ghost use Rattle.made_trees.specs.Names.{closed, name_given, with_binder, name_s
 ghost use Rattle.made_trees.specs.Names.{tops, first_naming};
 ghost use Rattle.made_trees.specs.Walked.{naming, top_level};
 
-use crate::name::{Tops, free_name, is_in, put, put_block, put_params};
+use crate::free::free_name;
+use crate::name::{Tops, is_in, put, put_block, put_params};
 use exo_tree::{Binder, Block, Name, Proc, Stmt};
 use std::alloc::{AllocError, Global};
 

@@ -4,7 +4,7 @@ use Rattle.std.proofs.Common.{true, false, ◌&&◌, ◌||◌, List, [], ◌∷�
 use Rattle.std.proofs.Common.{option_map, refl, sym, ap, ap₂, subst, true≢false, eqb-true}
 use Rattle.std.specs.Ordering.{int_eq}
 use Rattle.exo_tree.specs.Cells.{same_cell, same_cell_is}
-use Rattle.exo_tree.specs.Tree.{Cell, Binder, Control, Condition, True, False, Flag}
+use Rattle.exo_tree.specs.Tree.{Binder, Control, Condition, True, False, Flag}
 use Rattle.exo_tree.specs.Tree.{FieldFlag, Lt, Le, Gt, Ge, Eq, And, Or, Datum, Const, Read, Negated}
 use Rattle.exo_tree.specs.Tree.{Relu, Plus, Minus, Times, Select, Coord, At, Span, Argument}
 use Rattle.exo_tree.specs.Tree.{ControlArg, ConditionArg, Whole, Window, Statement, Assign, Reduce}

@@ -5,6 +5,7 @@ pub mod InlineConditions
 pub mod FreshCallee
 pub mod AtOnce
 pub mod MovedIsPut
+pub mod Known
 pub mod Meets
 pub mod MatchLaw
 pub mod ReplaceRule

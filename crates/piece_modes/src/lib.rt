@@ -5,4 +5,5 @@ mod own;
 mod touches;
 mod way;
 
-pub use own::sees_own_root;
+pub use own::{roots_at, sees_own_root, touches_buffer};
+pub use touches::Mode;

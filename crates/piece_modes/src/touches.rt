@@ -20,7 +20,7 @@ use std::alloc::AllocError;
 
 /// A way to touch a buffer.
 #[derive(Clone, Copy)]
-pub(crate) enum Mode {
+pub enum Mode {
     Reading,
     Writing,
     Reducing,

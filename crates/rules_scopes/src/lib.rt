@@ -5,4 +5,4 @@ pub mod place;
 mod tables;
 mod walk;
 
-pub use place::{cond_at, ctrl_at, window_at};
+pub use place::{cond_at, ctrl_at, name_at, window_at};

@@ -4,6 +4,7 @@ ghost use Rattle.exo_tree.specs.PlainUnit.{program};
 ghost use Rattle.exo_meaning.specs.Units.{IsUnit};
 ghost use Rattle.text_expressions.specs.Views.{tree_of};
 ghost use Rattle.exo_reader.specs.Views.{plain_coordinate};
+ghost use Rattle.rules_names.specs.Names.{id_in};
 ghost use Rattle.rules_scopes.specs.PlaceScope.{scope_at};
 ghost use Rattle.rules_scopes.specs.Resolved.{IsControlAt, IsConditionAt, IsWindowAt};
 
@@ -12,6 +13,7 @@ use crate::walk::scope_at;
 use exo_reader::source::SourceWindow;
 use exo_tree::{Cond, Coords, Ctrl, Id, Path, ProcId, Unit};
 use rules_names::argument::{ArgError, condition_argument, control_argument, window_argument};
+use rules_names::resolved::id_in;
 use rules_names::scope::Scope;
 use rules_names::table::FieldTable;
 use rules_names::tested::Names;
@@ -88,6 +90,24 @@ pub fn cond_at(
     let seen = seen_at(alloc, unit, p, path, after)?;
     let names = seen.names();
     condition_argument(alloc, &names, e)
+}
+
+/// The id of a name at a place, as `ctrl_at` does it.
+pub fn name_at(
+    alloc: Global,
+    unit: &Unit,
+    p: ProcId,
+    path: &Path,
+    after: bool,
+    name: &str,
+) -> Result<Id, AllocError>
+    requires { IsUnit (program unit.now) }
+    ensures { IfOk result (λ x. x.0
+        ≡ id_in (scope_at (program unit.now) p.0 path.now after) name.now) }
+{
+    let seen = seen_at(alloc, unit, p, path, after)?;
+    let names = seen.names();
+    Ok(id_in(&names, name))
 }
 
 /// The buffer or view and the coordinates of a window in a string at a place, as `ctrl_at` does it.

@@ -1,170 +1,222 @@
--- Closed lines.
-use Rattle.std.proofs.Common.{◌≡◌, List, ℕ, [], ◌∷◌, true, false, refl, ap}
-use Rattle.std.specs.Prelude.{codes, Option, Some, None}
-use Rattle.std.specs.Str.{bytes_eq}
+-- Closed lines, and closed arguments of each form.
+use Rattle.std.proofs.Common.{◌≡◌, List, ℕ, Bool, [], ◌∷◌, true, false, Option, Some, None, refl}
+use Rattle.std.specs.Prelude.{codes}
 use Rattle.text_lexer.specs.declared.token.Literal.TheVariants.{Value}
 use Rattle.text_expressions.specs.Expression.{Tree, number, truth, control}
 use Rattle.exo_reader.specs.Instance.{TextInstance as ReaderInstance, stops_at}
-use Rattle.exo_reader.specs.Strings.{line_tokens_of, line_places_of}
+use Rattle.exo_reader.specs.Strings.{line_tokens_of, line_places_of, window}
 use Rattle.exo_reader.specs.Texts.{TextsAreOne}
 use Rattle.cursor_patterns.specs.Patterns.{Loop, Read}
 use Rattle.schedule_patterns.specs.Instance.{TextInstance}
 use Rattle.schedule_text.specs.Tree as tree
 use Rattle.schedule_text.specs.declared.source.Direction.TheVariants as way
 use Rattle.exo_tree.specs.Places.{Branch, Main, Else}
-use Rattle.schedule_calls.specs.Requests.{Asked, Operation, Here, Tail, Guard, CutAndGuard}
-use Rattle.schedule_calls.specs.Requests.{Perfect, Division}
-use Rattle.schedule_calls.specs.Readings.{AsksOnlyCursor, AsksName, AsksControl, AsksCondition}
-use Rattle.schedule_calls.specs.Readings.{under, here, divide_loop, cut_loop, mult_loops}
-use Rattle.schedule_calls.specs.Readings.{shift_loop, reorder_loops, fission, fuse, join_loops}
-use Rattle.schedule_calls.specs.Readings.{unroll_loop, remove_loop, lift_scope, specialize}
-use Rattle.schedule_calls.specs.Readings.{eliminate_dead_code, reorder_stmts, is_unknown}
-use Rattle.schedule_calls.specs.Readings.{AsksOperation, commute_expr, rename, delete_pass}
+use Rattle.schedule_calls.specs.Requests.{Here, Tail, Guard, CutAndGuard, Perfect, Division}
+use Rattle.schedule_calls.specs.Requests.{Change, WithControl, StageMem, Operation, At}
+use Rattle.schedule_calls.specs.Keys.{tail_in, keep_in, accum_in}
+use Rattle.schedule_calls.specs.Operators.{operator_of}
+use Rattle.schedule_calls.specs.Readings.{AsksControl, under, here}
+use Rattle.schedule_calls.specs.Readings.{AsksChange, alone, with_control, with_word, mult_loops}
+use Rattle.schedule_calls.specs.Readings.{specialize, commute_expr, bind_expr, expand_dim}
+use Rattle.schedule_calls.specs.Readings.{stage_mem, write_config, bind_config, divide_loop}
+use Rattle.schedule_calls.specs.Readings.{eliminate_dead_code, AsksOperation, at, whole, rename}
 use Rattle.schedule_calls.specs.Readings.{Asks, apply, search, moved, emit}
-use Rattle.schedule_calls.specs.Keys.{tail_in, keep_in}
-use Rattle.schedule_calls.specs.Operators.{cursor_name}
-use Rattle.schedule_calls.specs.declared.operator.AtCursor.{AtCursor}
-use Rattle.schedule_calls.specs.declared.operator.AtCursor.TheVariants as op
-use Rattle.schedule_calls.specs.Instance.{on_p, held_c, at_c, text, divide_line, asks_divided}
-use Rattle.schedule_calls.specs.Instance.{on_c, tail_key, perfect_key, keep_key, eliminate_line}
-use Rattle.schedule_calls.specs.Instance.{asks_eliminated, line_of}
-use Rattle.schedule_calls.specs.Instance.{AsksNothing, LinesInstance}
+use Rattle.schedule_calls.specs.Instance.{on_p, line_of, asks, held_c, at_c, asks_at_c}
+use Rattle.schedule_calls.specs.Instance.{text, word}
+use Rattle.schedule_calls.specs.Instance.{divide_line, asks_divided, tail_key, perfect_key}
+use Rattle.schedule_calls.specs.Instance.{eliminate_line, asks_eliminated, keep_key, accum_key}
+use Rattle.schedule_calls.specs.Instance.{i_to_j, on_c, stage_line, asks_staged}
+use Rattle.schedule_calls.specs.Instance.{AsksNothing, LinesInstance, FormsInstance}
+use Rattle.schedule_calls.specs.declared.operator.CursorOperator.{CursorOperator}
+use Rattle.schedule_calls.specs.declared.operator.CursorOperator.TheVariants.{ReorderLoops}
+use Rattle.schedule_calls.specs.declared.operator.CursorOperator.TheVariants.{UnrollLoop}
+use Rattle.schedule_calls.specs.declared.operator.ControlOperator.{ControlOperator}
+use Rattle.schedule_calls.specs.declared.operator.ControlOperator.TheVariants.{CutLoop, ShiftLoop}
+use Rattle.schedule_calls.specs.declared.operator.WholeOperator.TheVariants.{DeletePass}
+use Rattle.schedule_calls.specs.declared.operator.ChangeOperator.{ChangeOperator}
+use Rattle.schedule_calls.specs.declared.operator.ChangeOperator.TheVariants as kind
+use Rattle.schedule_calls.specs.declared.operator.Operator.{Operator}
+use Rattle.schedule_calls.specs.declared.operator.Operator.TheVariants as operator
 use Rattle.schedule_calls.proofs.Closed.{five, yes}
-use Rattle.schedule_calls.proofs.Strings.{no_control, no_condition}
-use Rattle.schedule_calls.proofs.AtCursors.{asks_at, none_at}
-use Rattle.schedule_calls.proofs.Eliminations.{no_eliminate_key}
-use Rattle.schedule_calls.proofs.Loops.{no_divide, no_cut_value, no_mult_name, no_shift_value}
-use Rattle.schedule_calls.proofs.Loops.{no_specialize_condition}
-use Rattle.schedule_calls.proofs.Lines.{no_apply}
+use Rattle.schedule_calls.proofs.Strings as strings
+use Rattle.schedule_calls.proofs.Changes.{no_change, no_division, no_branch}
+use Rattle.schedule_calls.proofs.Changes.{no_control, no_condition, no_loop, no_word, no_param}
+use Rattle.schedule_calls.proofs.Changes.{no_window, no_accum}
+use Rattle.schedule_calls.proofs.Lines.{no_apply, is_known, no_operator}
 
-none_behind : (args : List tree.Argument) (at : Asked) → args ≡ [] → AsksOnlyCursor args at → ⊥
-none_behind [] at is h = h
-none_behind (a ∷ more) at is h = cc (is)
+-- ---- names
 
-only_delete : (name : List ℕ) (args : List tree.Argument) (o : Operation)
-    → AsksOperation name args o → args ≡ [] → name ≡ codes "delete_pass"
-only_delete _ _ _ (divide_loop a by names keys at d h k) is = absurd (cc (is))
-only_delete _ _ _ (cut_loop a b at e h k) is = absurd (cc (is))
-only_delete _ _ _ (mult_loops a b at name h k) is = absurd (cc (is))
-only_delete _ _ _ (shift_loop a b at e h k) is = absurd (cc (is))
-only_delete _ _ _ (reorder_loops args at h) is = absurd (none_behind args at is h)
-only_delete _ _ _ (fission args at h) is = absurd (none_behind args at is h)
-only_delete _ _ _ (fuse args at h) is = absurd (none_behind args at is h)
-only_delete _ _ _ (join_loops args at h) is = absurd (none_behind args at is h)
-only_delete _ _ _ (unroll_loop args at h) is = absurd (none_behind args at is h)
-only_delete _ _ _ (remove_loop args at h) is = absurd (none_behind args at is h)
-only_delete _ _ _ (lift_scope args at h) is = absurd (none_behind args at is h)
-only_delete _ _ _ (specialize a b at c h k) is = absurd (cc (is))
-only_delete _ _ _ (eliminate_dead_code a keys at keep h k) is = absurd (cc (is))
-only_delete _ _ _ (reorder_stmts args at h) is = absurd (none_behind args at is h)
-only_delete _ _ _ (commute_expr a b at x h k) is = absurd (cc (is))
-only_delete _ _ _ (rename a name h) is = absurd (cc (is))
-only_delete _ _ _ delete_pass is = refl
+-- the operator of each name
+record NamesHold : Type 0 where
+  pub divide_loop : operator_of (codes "divide_loop") ≡ Some (operator.At kind.DivideLoop)
+  pub cut_loop :
+      operator_of (codes "cut_loop") ≡ Some (operator.At (kind.WithControl CutLoop))
+  pub shift_loop :
+      operator_of (codes "shift_loop") ≡ Some (operator.At (kind.WithControl ShiftLoop))
+  pub mult_loops : operator_of (codes "mult_loops") ≡ Some (operator.At kind.MultLoops)
+  pub unroll_loop :
+      operator_of (codes "unroll_loop") ≡ Some (operator.At (kind.Alone UnrollLoop))
+  pub reorder_loops :
+      operator_of (codes "reorder_loops") ≡ Some (operator.At (kind.Alone ReorderLoops))
+  pub specialize : operator_of (codes "specialize") ≡ Some (operator.At kind.Specialize)
+  pub eliminate_dead_code :
+      operator_of (codes "eliminate_dead_code") ≡ Some (operator.At kind.EliminateDeadCode)
+  pub commute_expr : operator_of (codes "commute_expr") ≡ Some (operator.At kind.CommuteExpr)
+  pub stage_mem : operator_of (codes "stage_mem") ≡ Some (operator.At kind.StageMem)
+  pub rename : operator_of (codes "rename") ≡ Some operator.Rename
+  pub delete_pass : operator_of (codes "delete_pass") ≡ Some (operator.Whole DeletePass)
+  pub vanish : operator_of (codes "vanish") ≡ None
 
-no_bare : (o : Operation) → AsksOperation (codes "rename") [] o → ⊥
-no_bare o asks =
-    let same : codes "rename" ≡ codes "delete_pass" = only_delete _ _ o asks refl in
-    let e : true ≡ false = ap (bytes_eq (codes "rename")) same in
-    cc (e)
+there : NamesHold
+unfolding operator_of
+there = record {
+  divide_loop = refl;
+  cut_loop = refl;
+  shift_loop = refl;
+  mult_loops = refl;
+  unroll_loop = refl;
+  reorder_loops = refl;
+  specialize = refl;
+  eliminate_dead_code = refl;
+  commute_expr = refl;
+  stage_mem = refl;
+  rename = refl;
+  delete_pass = refl;
+  vanish = refl;
+}
 
--- ---- divisions
+-- ---- lines
+
+by_name : (name : List ℕ) (o : Operator) (more : List tree.Argument) (x : Operation)
+    → operator_of name ≡ Some o → AsksOperation o more x → Asks (line_of name more) (asks x)
+by_name name o more x is h = apply (codes "q") name (codes "p") (on_p more) o x is refl h
+
+not_by_name : (name : List ℕ) (o : Operator) (more : List tree.Argument)
+    → operator_of name ≡ Some o → ((x : Operation) → AsksOperation o more x → ⊥)
+    → AsksNothing (line_of name more)
+not_by_name name o more is never = record {
+  known = is_known (codes "q") name (on_p more) o is;
+  none = no_apply (codes "q") name (on_p more) o is never;
+}
+
+-- at `c`
+at_held : (k : ChangeOperator) (more : List tree.Argument) (x : Change) → AsksChange k more x
+    → AsksOperation (operator.At k) (held_c ∷ more) (At at_c x)
+at_held k more x h = at k held_c more at_c x (under (codes "c") []) h
+
+by_change : (name : List ℕ) (k : ChangeOperator) (more : List tree.Argument) (x : Change)
+    → operator_of name ≡ Some (operator.At k) → AsksChange k more x
+    → Asks (line_of name (held_c ∷ more)) (asks_at_c x)
+by_change name k more x is h =
+    by_name name (operator.At k) (held_c ∷ more) _ is (at_held k more x h)
+
+not_by_change : (name : List ℕ) (k : ChangeOperator) (more : List tree.Argument)
+    → operator_of name ≡ Some (operator.At k) → ((x : Change) → AsksChange k more x → ⊥)
+    → AsksNothing (line_of name (held_c ∷ more))
+not_by_change name k more is never =
+    not_by_name name (operator.At k) (held_c ∷ more) is (no_change k held_c more never)
+
+-- ---- no argument, and one too many
+
+none_behind : (o : CursorOperator) (x : Operation) → AsksOperation (operator.At (kind.Alone o)) [] x
+    → ⊥
+none_behind o x asks = without (operator.At (kind.Alone o)) [] x asks refl refl
+  where
+    without : (p : Operator) (args : List tree.Argument) (y : Operation) → AsksOperation p args y
+        → args ≡ [] → p ≡ operator.At (kind.Alone o) → ⊥
+    without _ _ _ (at k a more asked change h j) is same = cc (is)
+    without _ _ _ (whole w) is same = cc (same)
+    without _ _ _ (rename a name h) is same = cc (is)
+
+one_more : (o : CursorOperator) (x : Change) → AsksChange (kind.Alone o) (held_c ∷ []) x → ⊥
+one_more o x asks = many (kind.Alone o) (held_c ∷ []) x asks refl refl
+  where
+    many : (k : ChangeOperator) (args : List tree.Argument) (y : Change) → AsksChange k args y
+        → args ≡ held_c ∷ [] → k ≡ kind.Alone o → ⊥
+    many _ _ _ (alone p) is same = cc (is)
+    many _ _ _ (with_control p a e h) is same = cc (same)
+    many _ _ _ (with_word p a w h) is same = cc (same)
+    many _ _ _ (mult_loops a n h) is same = cc (same)
+    many _ _ _ (specialize a c h) is same = cc (same)
+    many _ _ _ (commute_expr a p h) is same = cc (same)
+    many _ _ _ (bind_expr a b p n h i) is same = cc (same)
+    many _ _ _ (expand_dim a b e f h i) is same = cc (same)
+    many _ _ _ (stage_mem a b keys w n t h i j) is same = cc (same)
+    many _ _ _ (write_config a b c w n e h i j) is same = cc (same)
+    many _ _ _ (bind_config a b c n w m h i j) is same = cc (same)
+    many _ _ _ (divide_loop a b keys d h) is same = cc (same)
+    many _ _ _ (eliminate_dead_code keys t h) is same = cc (same)
+
+no_bare : (x : Operation) → AsksOperation operator.Rename [] x → ⊥
+no_bare x asks = without operator.Rename [] x asks refl refl
+  where
+    without : (p : Operator) (args : List tree.Argument) (y : Operation) → AsksOperation p args y
+        → args ≡ [] → p ≡ operator.Rename → ⊥
+    without _ _ _ (at k a more asked change h j) is same = cc (is)
+    without _ _ _ (whole w) is same = cc (same)
+    without _ _ _ (rename a name h) is same = cc (is)
+
+-- ---- keys
 
 -- the loop at c, with these keys
 divides : (keys : List tree.Argument) (t : Tail) → tail_in keys ≡ Some t
     → Asks (divide_line keys) (asks_divided t)
 divides keys t is =
-    apply (codes "q") (codes "divide_loop") (codes "p") (on_p (held_c ∷ _ ∷ _ ∷ keys)) _ refl
-    (divide_loop held_c _ _ keys at_c
-    (record { by = 8; outer = codes "io"; inner = codes "ii"; tail = t }) (under (codes "c") [])
+    by_change (codes "divide_loop") kind.DivideLoop (_ ∷ _ ∷ keys) _ there.divide_loop
+    (divide_loop _ _ keys (record { by = 8; outer = codes "io"; inner = codes "ii"; tail = t })
     (record { by = refl; names = ((refl, refl), (refl, refl)); tail = is }))
 
 divides_twice : AsksNothing (divide_line (tail_key ∷ tail_key ∷ []))
-divides_twice = record {
-  known = refl;
-  none =
-      no_apply (codes "q") (codes "divide_loop") _
-      (no_divide _ _ _ (tail_key ∷ tail_key ∷ [])
-      (λ (d : Division) k. let e : None ≡ Some d.tail = k.tail in cc (e)));
-}
-
--- ---- operators that take a cursor and nothing more
-
-there : (o : AtCursor) (args : List tree.Argument) → is_unknown (line_of (cursor_name o) args) ≡ false
-there op.ReorderLoops args = refl
-there op.Fission args = refl
-there op.Fuse args = refl
-there op.JoinLoops args = refl
-there op.UnrollLoop args = refl
-there op.RemoveLoop args = refl
-there op.LiftScope args = refl
-there op.ReorderStmts args = refl
-
-asks_nothing_at : (o : AtCursor) (args : List tree.Argument)
-    → ((at : Asked) → AsksOnlyCursor args at → ⊥) → AsksNothing (line_of (cursor_name o) args)
-asks_nothing_at o args never = record {
-  known = there o args;
-  none = no_apply (codes "q") (cursor_name o) (on_p args) (none_at o args never);
-}
-
--- ---- the branch that is kept
+divides_twice =
+    not_by_change (codes "divide_loop") kind.DivideLoop (_ ∷ _ ∷ tail_key ∷ tail_key ∷ [])
+    there.divide_loop
+    (no_division _ _ (tail_key ∷ tail_key ∷ [])
+    (λ (d : Division) k. let e : None ≡ Some d.tail = k.tail in cc (e)))
 
 eliminates : (keys : List tree.Argument) (keep : Option Branch) → keep_in keys ≡ Some keep
     → Asks (eliminate_line keys) (asks_eliminated keep)
 eliminates keys keep is =
-    apply (codes "q") (codes "eliminate_dead_code") (codes "p") (on_p (held_c ∷ keys)) _ refl
-    (eliminate_dead_code held_c keys at_c keep (under (codes "c") []) is)
+    by_change (codes "eliminate_dead_code") kind.EliminateDeadCode keys _ there.eliminate_dead_code
+    (eliminate_dead_code keys keep is)
 
 eliminates_nothing : (keys : List tree.Argument) → keep_in keys ≡ None
     → AsksNothing (eliminate_line keys)
-eliminates_nothing keys none = record {
-  known = refl;
-  none =
-      no_apply (codes "q") (codes "eliminate_dead_code") (on_p (held_c ∷ keys))
-      (no_eliminate_key held_c keys none);
-}
+eliminates_nothing keys none =
+    not_by_change (codes "eliminate_dead_code") kind.EliminateDeadCode keys
+    there.eliminate_dead_code (no_branch keys none)
+
+stages : ReaderInstance → (keys : List tree.Argument) (accum : Bool) → accum_in keys ≡ Some accum
+    → AsksChange kind.StageMem (text (codes "x[i:j]") ∷ text (codes "a") ∷ keys)
+    (StageMem (codes "x", i_to_j ∷ []) (codes "a") accum)
+stages texts keys accum is =
+    stage_mem _ _ keys _ _ accum (record { written = texts.span; form = refl }) (refl, refl) is
+
+stages_line : ReaderInstance → (keys : List tree.Argument) (accum : Bool)
+    → accum_in keys ≡ Some accum
+    → Asks (stage_line (text (codes "a")) keys) (asks_staged accum)
+stages_line texts keys accum is =
+    by_change (codes "stage_mem") kind.StageMem
+    (text (codes "x[i:j]") ∷ text (codes "a") ∷ keys) _ there.stage_mem
+    (stages texts keys accum is)
 
 -- ---- expressions
 
-cuts_nothing : (s : List ℕ) → ((e : Tree) → AsksControl (text s) e → ⊥)
-    → AsksNothing (on_c (codes "cut_loop") s)
-cuts_nothing s never = record {
-  known = refl;
-  none =
-      no_apply (codes "q") (codes "cut_loop") (on_p (held_c ∷ text s ∷ []))
-      (no_cut_value held_c (text s) never);
-}
+by_control : (name : List ℕ) (o : ControlOperator)
+    → operator_of name ≡ Some (operator.At (kind.WithControl o))
+    → Asks (on_c name (codes "5")) (asks_at_c (WithControl o (number (Value 5))))
+by_control name o is =
+    by_change name (kind.WithControl o) (text (codes "5") ∷ []) _ is
+    (with_control o (text (codes "5")) _ (record { written = five; form = refl }))
 
-shifts_nothing : (s : List ℕ) → ((e : Tree) → AsksControl (text s) e → ⊥)
-    → AsksNothing (on_c (codes "shift_loop") s)
-shifts_nothing s never = record {
-  known = refl;
-  none =
-      no_apply (codes "q") (codes "shift_loop") (on_p (held_c ∷ text s ∷ []))
-      (no_shift_value held_c (text s) never);
-}
-
-specializes_nothing : (s : List ℕ) → ((c : Tree) → AsksCondition (text s) c → ⊥)
-    → AsksNothing (on_c (codes "specialize") s)
-specializes_nothing s never = record {
-  known = refl;
-  none =
-      no_apply (codes "q") (codes "specialize") (on_p (held_c ∷ text s ∷ []))
-      (no_specialize_condition held_c (text s) never);
-}
-
--- ---- names
-
-multiplies_nothing : (s : List ℕ) → ((name : List ℕ) → AsksName (text s) name → ⊥)
-    → AsksNothing (on_c (codes "mult_loops") s)
-multiplies_nothing s never = record {
-  known = refl;
-  none =
-      no_apply (codes "q") (codes "mult_loops") (on_p (held_c ∷ text s ∷ []))
-      (no_mult_name held_c (text s) never);
-}
+not_by_control : (name : List ℕ) (o : ControlOperator) (s : List ℕ)
+    → operator_of name ≡ Some (operator.At (kind.WithControl o))
+    → ((e : Tree) → AsksControl (text s) e → ⊥) → AsksNothing (on_c name s)
+not_by_control name o s is never =
+    not_by_change name (kind.WithControl o) (text s ∷ []) is (no_control o (text s) never)
 
 pub instance : TextInstance → ReaderInstance → TextsAreOne control → LinesInstance
 instance patterns texts one = record {
+  names = refl;
   emitted = emit (codes "p");
   found =
       search (codes "c")
@@ -178,69 +230,107 @@ instance patterns texts one = record {
   divided = divides [] Guard refl;
   divided_cut = divides (perfect_key tree.no ∷ tail_key ∷ []) CutAndGuard refl;
   divided_perfect = divides (tail_key ∷ perfect_key tree.yes ∷ []) Perfect refl;
-  cut =
-      apply (codes "q") (codes "cut_loop") (codes "p") (on_p (held_c ∷ text (codes "5") ∷ [])) _
-      refl
-      (cut_loop held_c (text (codes "5")) at_c (number (Value 5)) (under (codes "c") [])
-      (record { written = five; form = refl }));
+  cut = by_control (codes "cut_loop") CutLoop there.cut_loop;
+  shifted = by_control (codes "shift_loop") ShiftLoop there.shift_loop;
   multiplied =
-      apply (codes "q") (codes "mult_loops") (codes "p") (on_p (held_c ∷ text (codes "k") ∷ [])) _
-      refl
-      (mult_loops held_c (text (codes "k")) at_c (codes "k") (under (codes "c") []) (refl, refl));
-  shifted =
-      apply (codes "q") (codes "shift_loop") (codes "p") (on_p (held_c ∷ text (codes "5") ∷ [])) _
-      refl
-      (shift_loop held_c (text (codes "5")) at_c (number (Value 5)) (under (codes "c") [])
-      (record { written = five; form = refl }));
+      by_change (codes "mult_loops") kind.MultLoops (text (codes "k") ∷ []) _ there.mult_loops
+      (mult_loops (text (codes "k")) (codes "k") (refl, refl));
   unrolled =
-      apply (codes "q") (codes "unroll_loop") (codes "p") (on_p (text (codes "i #1") ∷ [])) _ refl
-      (unroll_loop (text (codes "i #1") ∷ [])
-      (record { source = Here (Loop (Some (codes "i"))) 1; moves = [] })
-      (here (codes "i #1" ∷ []) (Loop (Some (codes "i"))) 1 patterns.loop));
+      by_name (codes "unroll_loop") (operator.At (kind.Alone UnrollLoop)) (text (codes "i #1") ∷ [])
+      _ there.unroll_loop
+      (at (kind.Alone UnrollLoop) (text (codes "i #1")) []
+      (record { source = Here (Loop (Some (codes "i"))) 1; moves = [] }) _
+      (here (codes "i #1" ∷ []) (Loop (Some (codes "i"))) 1 patterns.loop) (alone UnrollLoop));
   specialized =
-      apply (codes "q") (codes "specialize") (codes "p") (on_p (held_c ∷ text (codes "True") ∷ []))
-      _
-      refl
-      (specialize held_c (text (codes "True")) at_c (truth true) (under (codes "c") [])
-      (record { written = yes; form = refl }));
-  at_cursor = λ o.
-      apply (codes "q") (cursor_name o) (codes "p") (on_p (held_c ∷ [])) _ refl
-      (asks_at o (held_c ∷ []) at_c (under (codes "c") []));
+      by_change (codes "specialize") kind.Specialize (text (codes "True") ∷ []) _ there.specialize
+      (specialize (text (codes "True")) (truth true) (record { written = yes; form = refl }));
   eliminated = eliminates [] None refl;
   body_kept = eliminates (keep_key (codes "body") ∷ []) (Some Main) refl;
   else_kept = eliminates (keep_key (codes "orelse") ∷ []) (Some Else) refl;
   commuted =
-      apply (codes "q") (codes "commute_expr") (codes "p") (on_p (held_c ∷ text (codes " _ ") ∷ []))
-      _ refl
-      (commute_expr held_c (text (codes " _ ")) at_c (record { form = Read None; nth = 0 })
-      (under (codes "c") []) patterns.any);
+      by_change (codes "commute_expr") kind.CommuteExpr (text (codes " _ ") ∷ []) _
+      there.commute_expr
+      (commute_expr (text (codes " _ ")) (record { form = Read None; nth = 0 }) patterns.any);
+  staged = stages_line texts [] false refl;
+  added_up = stages_line texts (accum_key tree.yes ∷ []) true refl;
   renamed =
-      apply (codes "q") (codes "rename") (codes "p") (on_p (text (codes "i") ∷ [])) _
-      refl (rename (text (codes "i")) (codes "i") (refl, refl));
-  deleted = apply (codes "q") (codes "delete_pass") (codes "p") (on_p []) _ refl delete_pass;
-  unknown = refl;
-  bare = record {
-    known = refl;
-    none = no_apply (codes "q") (codes "rename") (on_p []) no_bare;
-  };
+      by_name (codes "rename") operator.Rename (text (codes "i") ∷ []) _ there.rename
+      (rename (text (codes "i")) (codes "i") (refl, refl));
+  deleted =
+      by_name (codes "delete_pass") (operator.Whole DeletePass) [] _ there.delete_pass
+      (whole DeletePass);
+  unknown = no_operator (codes "q") (codes "vanish") (on_p []) there.vanish;
+  bare = not_by_name (codes "rename") operator.Rename [] there.rename no_bare;
   twice = divides_twice;
   kept_twice = eliminates_nothing (keep_key (codes "body") ∷ keep_key (codes "body") ∷ []) refl;
   no_branch = eliminates_nothing (keep_key (codes "else") ∷ []) refl;
   no_keep = eliminates_nothing (tail_key ∷ []) refl;
   no_key = eliminates_nothing (text (codes "body") ∷ []) refl;
-  no_cursor = λ o. asks_nothing_at o [] (λ at h. h);
-  two_cursors = λ o. asks_nothing_at o (held_c ∷ held_c ∷ []) (λ at h. h);
+  staged_twice =
+      not_by_change (codes "stage_mem") kind.StageMem
+      (text (codes "x[i:j]") ∷ text (codes "a") ∷ accum_key tree.yes ∷ accum_key tree.yes ∷ [])
+      there.stage_mem
+      (no_accum (text (codes "x[i:j]")) (text (codes "a"))
+      (accum_key tree.yes ∷ accum_key tree.yes ∷ []) refl);
+  no_cursor =
+      not_by_name (codes "reorder_loops") (operator.At (kind.Alone ReorderLoops)) []
+      there.reorder_loops (none_behind ReorderLoops);
+  two_cursors =
+      not_by_change (codes "reorder_loops") (kind.Alone ReorderLoops) (held_c ∷ [])
+      there.reorder_loops (one_more ReorderLoops);
   no_expression =
-      cuts_nothing (codes "i j")
+      not_by_control (codes "cut_loop") CutLoop (codes "i j") there.cut_loop
       (λ e k. one.no_error (line_tokens_of (codes "i j")) (line_places_of (codes "i j")) e
       (stops_at 3)
       k.written texts.two_names);
   no_control =
-      cuts_nothing (codes "True") (no_control one (codes "True" ∷ []) (truth true) yes refl);
+      not_by_control (codes "cut_loop") CutLoop (codes "True") there.cut_loop
+      (strings.no_control one (codes "True" ∷ []) (truth true) yes refl);
   no_start =
-      shifts_nothing (codes "True") (no_control one (codes "True" ∷ []) (truth true) yes refl);
+      not_by_control (codes "shift_loop") ShiftLoop (codes "True") there.shift_loop
+      (strings.no_control one (codes "True" ∷ []) (truth true) yes refl);
   no_condition =
-      specializes_nothing (codes "5")
-      (no_condition one (codes "5" ∷ []) (number (Value 5)) five refl);
-  no_name = multiplies_nothing (codes "5") (λ name k. cc (k.1));
+      not_by_change (codes "specialize") kind.Specialize (text (codes "5") ∷ []) there.specialize
+      (no_condition (text (codes "5"))
+      (strings.no_condition one (codes "5" ∷ []) (number (Value 5)) five refl));
+  no_name =
+      not_by_change (codes "mult_loops") kind.MultLoops (text (codes "5") ∷ []) there.mult_loops
+      (no_loop (text (codes "5")) (λ name k. cc (k.1)));
+}
+
+pub forms : TextInstance → ReaderInstance → TextsAreOne window → FormsInstance
+forms patterns texts one = record {
+  alone = λ o. at_held (kind.Alone o) [] _ (alone o);
+  whole = λ o. whole o;
+  with_word = λ o. with_word o (word (codes "M")) (codes "M") refl;
+  bound =
+      bind_expr (text (codes " _ ")) (text (codes "a")) (record { form = Read None; nth = 0 })
+      (codes "a") patterns.any (refl, refl);
+  expanded =
+      expand_dim (text (codes "5")) (text (codes "5")) _ _ (record { written = five; form = refl })
+      (record { written = five; form = refl });
+  staged = stages texts [] false refl;
+  added_up = stages texts (accum_key tree.yes ∷ []) true refl;
+  number_written =
+      write_config (word (codes "C")) (text (codes "f")) (text (codes "5")) (codes "C") (codes "f") _
+      refl (refl, refl) (record { written = five; form = refl });
+  truth_written =
+      write_config (word (codes "C")) (text (codes "f")) (text (codes "True")) (codes "C")
+      (codes "f") _ refl (refl, refl) (record { written = yes; form = refl });
+  field_bound =
+      bind_config (text (codes "n")) (word (codes "C")) (text (codes "f")) (codes "n") (codes "C")
+      (codes "f") (refl, refl) refl (refl, refl);
+  no_cursor = none_behind;
+  more = one_more;
+  no_word = λ o. no_word o (text (codes "M")) (λ w h. h);
+  no_name = no_param (word (codes "n")) (word (codes "C")) (text (codes "f")) (λ name h. h);
+  no_span =
+      no_window (text (codes "x[i]")) (text (codes "a")) []
+      (λ w k. one.no_error (line_tokens_of (codes "x[i]")) (line_places_of (codes "x[i]")) w
+      (stops_at 4)
+      k.written texts.point);
+  no_truth =
+      no_accum (text (codes "x[i:j]")) (text (codes "a"))
+      (accum_key (tree.text (codes "True" ∷ [])) ∷ []) refl;
+  no_accum = no_accum (text (codes "x[i:j]")) (text (codes "a")) (perfect_key tree.yes ∷ []) refl;
 }

@@ -1,12 +1,11 @@
-mod Once
 mod Answered
 mod Strings
 mod Cursors
-mod Operations
-mod AtCursors
-mod Loops
+mod Lists
+mod Changes
 mod Divisions
-mod Eliminations
+mod Rows
 mod Lines
+mod Once
 mod Closed
 mod Instance

@@ -1,12 +1,16 @@
 -- Lines that ask for something, and some that ask for nothing.
-use Rattle.std.proofs.Common.{◌≡◌, ℕ, List, ◌∷◌, map, sym, subst}
+use Rattle.std.proofs.Common.{◌≡◌, ℕ, List, ◌∷◌, Some, None, true, false, map, sym, ap, subst, ◌∙◌}
+use Rattle.std.specs.Prelude.{not}
+use Rattle.std.specs.Option.{is_some}
 use Rattle.cursor_patterns.specs.Patterns.{Pattern}
 use Rattle.schedule_text.specs.Tree as tree
 use Rattle.schedule_text.specs.Views.{plain_move}
 use Rattle.schedule_text.specs.declared.source.Move as source
-use Rattle.schedule_calls.specs.Requests.{Operation, Request, Apply, Search, Moved}
+use Rattle.schedule_calls.specs.Requests.{Operation, Request, Search, Moved}
+use Rattle.schedule_calls.specs.Operators.{operator_of}
+use Rattle.schedule_calls.specs.declared.operator.Operator.{Operator}
 use Rattle.schedule_calls.specs.Readings.{IsPatternIn, IsWord, AsksOperation, Asks}
-use Rattle.schedule_calls.specs.Readings.{apply, search, moved, move}
+use Rattle.schedule_calls.specs.Readings.{apply, search, moved, move, is_unknown}
 use Rattle.schedule_calls.specs.PlainRequest.{moves_of}
 
 pub asks_search : (bind x : List ℕ) (pieces : List (List ℕ)) (read : List source.Move)
@@ -38,18 +42,27 @@ pub no_search : (bind : List ℕ) (f : tree.Found)
     → Asks (tree.bind bind (tree.search f)) r → ⊥
 no_search bind f never _ (search _ _ p nth asks) = never (p, nth) asks
 
-pub no_apply : (bind operator : List ℕ) (args : tree.Arguments)
-    → ((o : Operation) → AsksOperation operator args.more o → ⊥) → (r : Request)
-    → Asks (tree.bind bind (tree.operation operator args)) r → ⊥
-no_apply bind operator args never _ (apply _ _ of _ o word asks) = never o asks
+-- ---- operators
 
-pub no_version : (bind operator : List ℕ) (args : tree.Arguments)
+known : (name : List ℕ) (o p : Operator) → operator_of name ≡ Some o → operator_of name ≡ Some p
+    → o ≡ p
+known name o p h k = let same : Some o ≡ Some p = sym h ∙ k in cc (same)
+
+pub no_apply : (bind name : List ℕ) (args : tree.Arguments) (o : Operator)
+    → operator_of name ≡ Some o → ((x : Operation) → AsksOperation o args.more x → ⊥)
+    → (r : Request) → Asks (tree.bind bind (tree.operation name args)) r → ⊥
+no_apply bind name args o is never _ (apply _ _ of _ p x there word asks) =
+    never x (subst (λ q. AsksOperation q args.more x) (known name p o there is) asks)
+
+pub no_version : (bind name : List ℕ) (args : tree.Arguments)
     → ((of : List ℕ) → IsWord args.head of → ⊥) → (r : Request)
-    → Asks (tree.bind bind (tree.operation operator args)) r → ⊥
-no_version bind operator args never _ (apply _ _ of _ o word asks) = never of word
+    → Asks (tree.bind bind (tree.operation name args)) r → ⊥
+no_version bind name args never _ (apply _ _ of _ o x there word asks) = never of word
 
-pub asks_apply : (bind name of known : List ℕ) (args : tree.Arguments) (o : Operation)
-    → name ≡ known → IsWord args.head of → AsksOperation known args.more o
-    → Asks (tree.bind bind (tree.operation name args)) (Apply bind of o)
-asks_apply bind name of known args o is word asks =
-    apply bind name of args o word (subst (λ n. AsksOperation n args.more o) (sym is) asks)
+pub no_operator : (bind name : List ℕ) (args : tree.Arguments) → operator_of name ≡ None
+    → is_unknown (tree.bind bind (tree.operation name args)) ≡ true
+no_operator bind name args none = ap (λ found. not (is_some found)) none
+
+pub is_known : (bind name : List ℕ) (args : tree.Arguments) (o : Operator)
+    → operator_of name ≡ Some o → is_unknown (tree.bind bind (tree.operation name args)) ≡ false
+is_known bind name args o is = ap (λ found. not (is_some found)) is

@@ -1,30 +1,32 @@
 -- A line asks for one thing.
-use Rattle.std.proofs.Common.{◌≡◌, ℕ, List, [], ◌∷◌, refl, sym, ap, ap₂, subst, ◌∙◌, true}
-use Rattle.std.specs.Prelude.{not, Some}
+use Rattle.std.proofs.Common.{◌≡◌, ℕ, List, [], ◌∷◌, Some, true, false, refl, sym, ap, ap₂}
+use Rattle.std.proofs.Common.{subst, ◌∙◌}
 use Rattle.text_expressions.specs.Expression.{Tree, control}
 use Rattle.exo_reader.specs.Texts.{TextsAreOne}
-use Rattle.exo_reader.specs.Strings.{line_tokens_of}
+use Rattle.exo_reader.specs.Strings.{line_tokens_of, window}
 use Rattle.exo_reader.specs.Items.{joined}
 use Rattle.schedule_text.specs.Tree as tree
 use Rattle.schedule_patterns.specs.Grammar.{statement, meant, expression, form_meant}
 use Rattle.schedule_patterns.specs.Texts.{PatternsAreOne}
 use Rattle.cursor_patterns.specs.Patterns.{Pattern, ExprForm, ExprPattern}
-use Rattle.schedule_calls.specs.Requests.{Asked, Found, Here, Operation, CommuteExpr, Rename}
-use Rattle.schedule_calls.specs.Requests.{Tail, Division, DivideLoop, CutLoop, MultLoops}
-use Rattle.schedule_calls.specs.Requests.{ShiftLoop, ReorderLoops, Fission, Fuse, JoinLoops}
-use Rattle.schedule_calls.specs.Requests.{UnrollLoop, RemoveLoop, LiftScope, Specialize}
-use Rattle.schedule_calls.specs.Requests.{EliminateDeadCode, ReorderStmts, Request, Apply, Search}
+use Rattle.schedule_calls.specs.Requests.{Asked, Found, Here, Tail, Division, Window}
+use Rattle.schedule_calls.specs.Requests.{Change, WithControl, WithWord, MultLoops, Specialize}
+use Rattle.schedule_calls.specs.Requests.{CommuteExpr, BindExpr, ExpandDim, StageMem}
+use Rattle.schedule_calls.specs.Requests.{WriteConfig, BindConfig, DivideLoop, EliminateDeadCode}
+use Rattle.schedule_calls.specs.Requests.{Operation, At, Rename, Request, Apply, Search}
 use Rattle.schedule_calls.specs.Readings.{moves, IsPatternOf, IsExprPatternOf, IsWord}
-use Rattle.schedule_calls.specs.Readings.{AsksCursor, under, found, here, AsksOnlyCursor}
-use Rattle.schedule_calls.specs.Readings.{AsksExpression, AsksName}
-use Rattle.schedule_calls.specs.Readings.{AsksNames, AsksControl, AsksCondition, AsksDivision}
-use Rattle.schedule_calls.specs.Readings.{divide_loop, cut_loop, mult_loops, shift_loop}
-use Rattle.schedule_calls.specs.Readings.{reorder_loops, fission, fuse, join_loops}
-use Rattle.schedule_calls.specs.Readings.{unroll_loop, remove_loop, lift_scope, specialize}
-use Rattle.schedule_calls.specs.Readings.{eliminate_dead_code, reorder_stmts}
-use Rattle.schedule_calls.specs.Readings.{AsksOperation, commute_expr, rename, delete_pass, Asks}
-use Rattle.schedule_calls.specs.Readings.{apply, search, moved, emit, is_operator, is_unknown}
+use Rattle.schedule_calls.specs.Readings.{AsksCursor, under, found, here}
+use Rattle.schedule_calls.specs.Readings.{AsksExpression, AsksName, AsksNames, AsksControl}
+use Rattle.schedule_calls.specs.Readings.{AsksCondition, AsksEither, AsksWindow, AsksDivision}
+use Rattle.schedule_calls.specs.Readings.{AsksChange, alone, with_control, with_word, mult_loops}
+use Rattle.schedule_calls.specs.Readings.{specialize, commute_expr, bind_expr, expand_dim}
+use Rattle.schedule_calls.specs.Readings.{stage_mem, write_config, bind_config, divide_loop}
+use Rattle.schedule_calls.specs.Readings.{eliminate_dead_code, AsksOperation, at, whole, rename}
+use Rattle.schedule_calls.specs.Readings.{Asks, apply, search, moved, emit, is_unknown}
 use Rattle.schedule_calls.specs.Answers.{LinesAskOnce}
+use Rattle.schedule_calls.specs.declared.operator.ChangeOperator.{ChangeOperator}
+use Rattle.schedule_calls.specs.declared.operator.Operator.{Operator}
+use Rattle.schedule_calls.proofs.Lines.{is_known}
 
 -- ---- strings
 
@@ -57,12 +59,6 @@ one_cursor law _ _ _ (found f p m h) (found _ q n k) =
 one_cursor law _ _ _ (here s p m h) (here _ q n k) =
     let one = one_pattern law s p q m n h k in
     ap₂ (λ r l. record { source = Here r l; moves = [] }) one.0 one.1
-
-one_only_cursor : PatternsAreOne statement meant → (args : List tree.Argument) (x y : Asked)
-    → AsksOnlyCursor args x → AsksOnlyCursor args y → x ≡ y
-one_only_cursor law [] x y h k = absurd h
-one_only_cursor law (a ∷ []) x y h k = one_cursor law a x y h k
-one_only_cursor law (a ∷ b ∷ more) x y h k = absurd h
 
 one_part : PatternsAreOne expression form_meant → (a : tree.Argument) (x y : ExprPattern) → AsksExpression a x → AsksExpression a y
     → x ≡ y
@@ -97,6 +93,24 @@ one_condition texts (tree.int n) x y h k = absurd h
 one_condition texts (tree.pair s t) x y h k = absurd h
 one_condition texts (tree.key z v) x y h k = absurd h
 
+one_either : TextsAreOne control → (a : tree.Argument) (x y : Tree) → AsksEither a x
+    → AsksEither a y → x ≡ y
+one_either texts (tree.string s) x y h k =
+    texts.tree (line_tokens_of (joined s)) x y h.written k.written
+one_either texts (tree.cursor c) x y h k = absurd h
+one_either texts (tree.int n) x y h k = absurd h
+one_either texts (tree.pair s t) x y h k = absurd h
+one_either texts (tree.key z v) x y h k = absurd h
+
+one_window : TextsAreOne window → (a : tree.Argument) (x y : Window) → AsksWindow a x
+    → AsksWindow a y → x ≡ y
+one_window texts (tree.string s) x y h k =
+    texts.tree (line_tokens_of (joined s)) x y h.written k.written
+one_window texts (tree.cursor c) x y h k = absurd h
+one_window texts (tree.int n) x y h k = absurd h
+one_window texts (tree.pair s t) x y h k = absurd h
+one_window texts (tree.key z v) x y h k = absurd h
+
 -- ---- divisions
 
 same_some : {T : Type 0} (a b : T) → Some a ≡ Some b → a ≡ b
@@ -127,72 +141,53 @@ record StringsAreOne : Type 0 where
   pub pattern : PatternsAreOne statement meant
   pub part : PatternsAreOne expression form_meant
   pub text : TextsAreOne control
+  pub window : TextsAreOne window
 
-one_operation : StringsAreOne
-    → (name : List ℕ) (args : List tree.Argument) (x y : Operation) → AsksOperation name args x
-    → AsksOperation name args y → x ≡ y
-one_operation one _ _ _ _ (divide_loop a by names keys at d h k)
-    (divide_loop _ _ _ _ to e i l) =
-    ap₂ DivideLoop (one_cursor one.pattern a at to h i) (one_division by names keys d e k l)
-one_operation one _ _ _ _ (cut_loop a b at e h k) (cut_loop _ _ to f i l) =
-    ap₂ CutLoop (one_cursor one.pattern a at to h i) (one_control one.text b e f k l)
-one_operation one _ _ _ _ (mult_loops a b at n h k) (mult_loops _ _ to m i l) =
-    ap₂ MultLoops (one_cursor one.pattern a at to h i) (one_name b n m k l)
-one_operation one _ _ _ _ (shift_loop a b at e h k) (shift_loop _ _ to f i l) =
-    ap₂ ShiftLoop (one_cursor one.pattern a at to h i) (one_control one.text b e f k l)
-one_operation one _ _ _ _ (reorder_loops args at h) (reorder_loops _ to i) =
-    ap ReorderLoops (one_only_cursor one.pattern args at to h i)
-one_operation one _ _ _ _ (fission args at h) (fission _ to i) =
-    ap Fission (one_only_cursor one.pattern args at to h i)
-one_operation one _ _ _ _ (fuse args at h) (fuse _ to i) =
-    ap Fuse (one_only_cursor one.pattern args at to h i)
-one_operation one _ _ _ _ (join_loops args at h) (join_loops _ to i) =
-    ap JoinLoops (one_only_cursor one.pattern args at to h i)
-one_operation one _ _ _ _ (unroll_loop args at h) (unroll_loop _ to i) =
-    ap UnrollLoop (one_only_cursor one.pattern args at to h i)
-one_operation one _ _ _ _ (remove_loop args at h) (remove_loop _ to i) =
-    ap RemoveLoop (one_only_cursor one.pattern args at to h i)
-one_operation one _ _ _ _ (lift_scope args at h) (lift_scope _ to i) =
-    ap LiftScope (one_only_cursor one.pattern args at to h i)
-one_operation one _ _ _ _ (specialize a b at e h k) (specialize _ _ to f i l) =
-    ap₂ Specialize (one_cursor one.pattern a at to h i) (one_condition one.text b e f k l)
-one_operation one _ _ _ _ (eliminate_dead_code a keys at keep h k)
-    (eliminate_dead_code _ _ to other i l) =
-    ap₂ EliminateDeadCode (one_cursor one.pattern a at to h i) (same_some keep other (sym k ∙ l))
-one_operation one _ _ _ _ (reorder_stmts args at h) (reorder_stmts _ to i) =
-    ap ReorderStmts (one_only_cursor one.pattern args at to h i)
-one_operation one _ _ _ _ (commute_expr a b at p h k) (commute_expr _ _ to q i l) =
-    ap₂ CommuteExpr (one_cursor one.pattern a at to h i) (one_part one.part b p q k l)
-one_operation one _ _ _ _ (rename a n h) (rename _ m k) =
-    ap Rename (one_name a n m h k)
-one_operation one _ _ _ _ delete_pass delete_pass = refl
+one_change : StringsAreOne → (o : ChangeOperator) (args : List tree.Argument) (x y : Change)
+    → AsksChange o args x → AsksChange o args y → x ≡ y
+one_change one _ _ _ _ (alone o) (alone _) = refl
+one_change one _ _ _ _ (with_control o a e h) (with_control _ _ f k) =
+    ap (WithControl o) (one_control one.text a e f h k)
+one_change one _ _ _ _ (with_word o a v h) (with_word _ _ w k) =
+    ap (WithWord o) (one_word a v w h k)
+one_change one _ _ _ _ (mult_loops a n h) (mult_loops _ m k) = ap MultLoops (one_name a n m h k)
+one_change one _ _ _ _ (specialize a c h) (specialize _ d k) =
+    ap Specialize (one_condition one.text a c d h k)
+one_change one _ _ _ _ (commute_expr a p h) (commute_expr _ q k) =
+    ap CommuteExpr (one_part one.part a p q h k)
+one_change one _ _ _ _ (bind_expr a b p n h i) (bind_expr _ _ q m k l) =
+    ap₂ BindExpr (one_part one.part a p q h k) (one_name b n m i l)
+one_change one _ _ _ _ (expand_dim a b e f h i) (expand_dim _ _ d g k l) =
+    ap₂ ExpandDim (one_control one.text a e d h k) (one_control one.text b f g i l)
+one_change one _ _ _ _ (stage_mem a b keys w n t h i j) (stage_mem _ _ _ v m u k l r) =
+    ap₂ (λ x y. StageMem x y t) (one_window one.window a w v h k) (one_name b n m i l)
+    ∙ ap (StageMem v m) (same_some t u (sym j ∙ r))
+one_change one _ _ _ _ (write_config a b c v n e h i j) (write_config _ _ _ w m f k l r) =
+    ap₂ (λ x y. WriteConfig x y e) (one_word a v w h k) (one_name b n m i l)
+    ∙ ap (WriteConfig w m) (one_either one.text c e f j r)
+one_change one _ _ _ _ (bind_config a b c x v n h i j) (bind_config _ _ _ y w m k l r) =
+    ap₂ (λ p q. BindConfig p q n) (one_name a x y h k) (one_word b v w i l)
+    ∙ ap (BindConfig y w) (one_name c n m j r)
+one_change one _ _ _ _ (divide_loop a b keys d h) (divide_loop _ _ _ e k) =
+    ap DivideLoop (one_division a b keys d e h k)
+one_change one _ _ _ _ (eliminate_dead_code keys t h) (eliminate_dead_code _ u k) =
+    ap EliminateDeadCode (same_some t u (sym h ∙ k))
 
-known : (name : List ℕ) (args : List tree.Argument) (o : Operation) → AsksOperation name args o
-    → is_operator name ≡ true
-known _ _ _ (divide_loop a by names keys at d h k) = refl
-known _ _ _ (cut_loop a b at e h k) = refl
-known _ _ _ (mult_loops a b at name h k) = refl
-known _ _ _ (shift_loop a b at e h k) = refl
-known _ _ _ (reorder_loops args at h) = refl
-known _ _ _ (fission args at h) = refl
-known _ _ _ (fuse args at h) = refl
-known _ _ _ (join_loops args at h) = refl
-known _ _ _ (unroll_loop args at h) = refl
-known _ _ _ (remove_loop args at h) = refl
-known _ _ _ (lift_scope args at h) = refl
-known _ _ _ (specialize a b at e h k) = refl
-known _ _ _ (eliminate_dead_code a keys at keep h k) = refl
-known _ _ _ (reorder_stmts args at h) = refl
-known _ _ _ (commute_expr a b at x h k) = refl
-known _ _ _ (rename a n h) = refl
-known _ _ _ delete_pass = refl
+one_operation : StringsAreOne → (o : Operator) (args : List tree.Argument) (x y : Operation)
+    → AsksOperation o args x → AsksOperation o args y → x ≡ y
+one_operation one _ _ _ _ (at o a more p c h i) (at _ _ _ q d k l) =
+    ap₂ At (one_cursor one.pattern a p q h k) (one_change one o more c d i l)
+one_operation one _ _ _ _ (whole o) (whole _) = refl
+one_operation one _ _ _ _ (rename a n h) (rename _ m k) = ap Rename (one_name a n m h k)
 
 -- ---- lines
 
-one_request : StringsAreOne
-    → (line : tree.Line) (a b : Request) → Asks line a → Asks line b → a ≡ b
-one_request one _ _ _ (apply x f u l o h k) (apply _ _ v _ q i j) =
-    ap₂ (Apply x) (one_word l.head u v h i) (one_operation one f l.more o q k j)
+one_request : StringsAreOne → (line : tree.Line) (a b : Request) → Asks line a → Asks line b
+    → a ≡ b
+one_request one _ _ _ (apply x f u l o a is h k) (apply _ _ v _ p b is_too i j) =
+    let same : o ≡ p = same_some o p (sym is ∙ is_too) in
+    ap₂ (Apply x) (one_word l.head u v h i)
+    (one_operation one p l.more a b (subst (λ q. AsksOperation q l.more a) same k) j)
 one_request one _ _ _ (search x f p m h) (search _ _ q n k) =
     let same = one_pattern one.pattern f.pattern p q m n h k in
     ap₂ (λ r l. Search x f.version r l (moves f.moves)) same.0 same.1
@@ -200,15 +195,15 @@ one_request one _ _ _ (moved x f m ms) (moved _ _ _ _) = refl
 one_request one _ _ _ (emit x) (emit _) = refl
 
 unknown_asks : (line : tree.Line) (a : Request) → is_unknown line ≡ true → Asks line a → ⊥
-unknown_asks _ _ is (apply x f u l o h k) =
-    let e : not true ≡ true = subst (λ b. not b ≡ true) (known f l.more o k) is in cc (e)
+unknown_asks _ _ is (apply x f u l o a there h k) =
+    let e : false ≡ true = sym (is_known x f l o there) ∙ is in cc (e)
 unknown_asks _ _ is (search x f p m h) = cc (is)
 unknown_asks _ _ is (moved x f m ms) = cc (is)
 unknown_asks _ _ is (emit x) = cc (is)
 
 pub lines_ask_once : PatternsAreOne statement meant → PatternsAreOne expression form_meant
-    → TextsAreOne control → LinesAskOnce
-lines_ask_once pattern part text = record {
-  request = one_request (record { pattern = pattern; part = part; text = text });
+    → TextsAreOne control → TextsAreOne window → LinesAskOnce
+lines_ask_once pattern part text window = record {
+  request = one_request (record { pattern = pattern; part = part; text = text; window = window });
   unknown = unknown_asks;
 }

@@ -1,4 +1,5 @@
--- Arguments with keys: what becomes of the turns that fill no group, and which branch is kept.
+-- Arguments with keys: what becomes of the turns that fill no group, which branch is kept, and
+-- whether a copy is added up.
 use Rattle.std.specs.Prelude.{ℕ, Bool, true, false, if◌then◌else◌, List, [], ◌∷◌}
 use Rattle.std.specs.Prelude.{Option, Some, None, option_map, option_and_then, codes}
 use Rattle.std.specs.Option.{is_some}
@@ -75,6 +76,15 @@ tail_meant k = perfect_or k.perfect (or_guard k.tail)
 abbrev pub tail_in : List tree.Argument → Option Tail
 tail_in args = option_map tail_meant (keys_behind (record { tail = None; perfect = None }) args)
 
+-- ---- one key
+
+-- the value under a key, where there is an argument; None where the arguments are others
+abbrev pub value_under : List ℕ → List tree.Argument → Option (Option tree.KeyValue)
+value_under key [] = Some None
+value_under key (tree.key name value ∷ []) =
+    if bytes_eq name key then Some (Some value) else None
+value_under key other = None
+
 -- ---- the branch that is kept
 
 abbrev pub branch_named : List ℕ → Option Branch
@@ -88,15 +98,20 @@ branch_of_value (tree.text pieces) = branch_named (joined pieces)
 branch_of_value tree.yes = None
 branch_of_value tree.no = None
 
-abbrev pub branch_of_key : List ℕ → tree.KeyValue → Option Branch
-branch_of_key name value = if bytes_eq name (codes "keep") then branch_of_value value else None
-
-abbrev pub branch_of_argument : tree.Argument → Option Branch
-branch_of_argument (tree.key name value) = branch_of_key name value
-branch_of_argument other = None
+abbrev pub branch_asked : Option tree.KeyValue → Option (Option Branch)
+branch_asked None = Some None
+branch_asked (Some value) = option_map Some (branch_of_value value)
 
 -- the branch that arguments with keys ask for, where there is one; None where they are refused
 abbrev pub keep_in : List tree.Argument → Option (Option Branch)
-keep_in [] = Some None
-keep_in (a ∷ []) = option_map Some (branch_of_argument a)
-keep_in (a ∷ b ∷ more) = None
+keep_in args = option_and_then branch_asked (value_under (codes "keep") args)
+
+-- ---- whether a copy is added up
+
+abbrev pub accum_asked : Option tree.KeyValue → Option Bool
+accum_asked None = Some false
+accum_asked (Some value) = flag_of_value value
+
+-- None: the arguments are refused
+abbrev pub accum_in : List tree.Argument → Option Bool
+accum_in args = option_and_then accum_asked (value_under (codes "accum") args)

@@ -1,75 +1,60 @@
--- The names of operators.
-use Rattle.std.specs.Prelude.{ℕ, List, Option, Some, None, if◌then◌else◌, codes}
+-- The operators that there are, by their names.
+use Rattle.std.specs.Prelude.{ℕ, Bool, List, [], ◌∷◌, Option, Some, None, if◌then◌else◌, codes}
+use Rattle.std.specs.Option.{is_some}
 use Rattle.std.specs.Str.{bytes_eq}
-use Rattle.schedule_calls.specs.declared.operator.AtCursor.{AtCursor}
-use Rattle.schedule_calls.specs.declared.operator.AtCursor.TheVariants.{ReorderLoops, Fission}
-use Rattle.schedule_calls.specs.declared.operator.AtCursor.TheVariants.{Fuse, JoinLoops}
-use Rattle.schedule_calls.specs.declared.operator.AtCursor.TheVariants.{UnrollLoop, RemoveLoop}
-use Rattle.schedule_calls.specs.declared.operator.AtCursor.TheVariants.{LiftScope, ReorderStmts}
+use Rattle.schedule_calls.specs.declared.operator.CursorOperator.TheVariants as alone
+use Rattle.schedule_calls.specs.declared.operator.ControlOperator.TheVariants as control
+use Rattle.schedule_calls.specs.declared.operator.WordOperator.TheVariants as word
+use Rattle.schedule_calls.specs.declared.operator.WholeOperator.TheVariants as whole
+use Rattle.schedule_calls.specs.declared.operator.ChangeOperator.TheVariants as change
+use Rattle.schedule_calls.specs.declared.operator.ChangeOperator.TheVariants.{Alone, WithControl}
 use Rattle.schedule_calls.specs.declared.operator.Operator.{Operator}
-use Rattle.schedule_calls.specs.declared.operator.Operator.TheVariants.{At, DivideLoop, CutLoop}
-use Rattle.schedule_calls.specs.declared.operator.Operator.TheVariants.{MultLoops, ShiftLoop}
-use Rattle.schedule_calls.specs.declared.operator.Operator.TheVariants.{Specialize}
-use Rattle.schedule_calls.specs.declared.operator.Operator.TheVariants.{EliminateDeadCode}
-use Rattle.schedule_calls.specs.declared.operator.Operator.TheVariants.{CommuteExpr, Rename}
-use Rattle.schedule_calls.specs.declared.operator.Operator.TheVariants.{DeletePass}
+use Rattle.schedule_calls.specs.declared.operator.Operator.TheVariants.{At, Whole, Rename}
 
--- ---- operators that take a cursor and nothing more
+-- each with its name
+abbrev pub rows : List (List ℕ × Operator)
+rows =
+    (codes "reorder_loops", At (Alone alone.ReorderLoops))
+    ∷ (codes "divide_loop", At change.DivideLoop)
+    ∷ (codes "cut_loop", At (WithControl control.CutLoop))
+    ∷ (codes "join_loops", At (Alone alone.JoinLoops))
+    ∷ (codes "mult_loops", At change.MultLoops)
+    ∷ (codes "shift_loop", At (WithControl control.ShiftLoop))
+    ∷ (codes "fission", At (Alone alone.Fission))
+    ∷ (codes "fuse", At (Alone alone.Fuse))
+    ∷ (codes "unroll_loop", At (Alone alone.UnrollLoop))
+    ∷ (codes "remove_loop", At (Alone alone.RemoveLoop))
+    ∷ (codes "lift_scope", At (Alone alone.LiftScope))
+    ∷ (codes "specialize", At change.Specialize)
+    ∷ (codes "eliminate_dead_code", At change.EliminateDeadCode)
+    ∷ (codes "reorder_stmts", At (Alone alone.ReorderStmts))
+    ∷ (codes "commute_expr", At change.CommuteExpr)
+    ∷ (codes "delete_pass", Whole whole.DeletePass)
+    ∷ (codes "rename", Rename)
+    ∷ (codes "set_memory", At (change.WithWord word.SetMemory))
+    ∷ (codes "delete_buffer", At (Alone alone.DeleteBuffer))
+    ∷ (codes "lift_alloc", At (Alone alone.LiftAlloc))
+    ∷ (codes "expand_dim", At change.ExpandDim)
+    ∷ (codes "bind_expr", At change.BindExpr)
+    ∷ (codes "stage_mem", At change.StageMem)
+    ∷ (codes "inline_window", At (Alone alone.InlineWindow))
+    ∷ (codes "inline", At (Alone alone.Inline))
+    ∷ (codes "write_config", At change.WriteConfig)
+    ∷ (codes "delete_config", At (Alone alone.DeleteConfig))
+    ∷ (codes "bind_config", At change.BindConfig)
+    ∷ (codes "call_eqv", At (change.WithWord word.CallEqv))
+    ∷ (codes "simplify", Whole whole.Simplify)
+    ∷ []
 
-abbrev pub cursor_name : AtCursor → List ℕ
-cursor_name ReorderLoops = codes "reorder_loops"
-cursor_name Fission = codes "fission"
-cursor_name Fuse = codes "fuse"
-cursor_name JoinLoops = codes "join_loops"
-cursor_name UnrollLoop = codes "unroll_loop"
-cursor_name RemoveLoop = codes "remove_loop"
-cursor_name LiftScope = codes "lift_scope"
-cursor_name ReorderStmts = codes "reorder_stmts"
+-- the operator of that name among some
+abbrev pub operator_among : List (List ℕ × Operator) → List ℕ → Option Operator
+operator_among [] name = None
+operator_among (row ∷ more) name =
+    if bytes_eq name row.0 then Some row.1 else operator_among more name
 
-abbrev pub at_cursor_of : List ℕ → Option AtCursor
-at_cursor_of name =
-    if bytes_eq name (codes "reorder_loops") then Some ReorderLoops
-    else (if bytes_eq name (codes "fission") then Some Fission
-    else (if bytes_eq name (codes "fuse") then Some Fuse
-    else (if bytes_eq name (codes "join_loops") then Some JoinLoops
-    else (if bytes_eq name (codes "unroll_loop") then Some UnrollLoop
-    else (if bytes_eq name (codes "remove_loop") then Some RemoveLoop
-    else (if bytes_eq name (codes "lift_scope") then Some LiftScope
-    else (if bytes_eq name (codes "reorder_stmts") then Some ReorderStmts
-    else None)))))))
+-- the operator of that name; folded, so that no proof looks into the rows by chance
+unfoldable pub operator_of : List ℕ → Option Operator
+operator_of name = operator_among rows name
 
--- ---- all operators
-
-abbrev pub name_of : Operator → List ℕ
-name_of (At o) = cursor_name o
-name_of DivideLoop = codes "divide_loop"
-name_of CutLoop = codes "cut_loop"
-name_of MultLoops = codes "mult_loops"
-name_of ShiftLoop = codes "shift_loop"
-name_of Specialize = codes "specialize"
-name_of EliminateDeadCode = codes "eliminate_dead_code"
-name_of CommuteExpr = codes "commute_expr"
-name_of Rename = codes "rename"
-name_of DeletePass = codes "delete_pass"
-
--- the operator of that name among those that take more than a cursor, or none
-abbrev pub other_of : List ℕ → Option Operator
-other_of name =
-    if bytes_eq name (codes "divide_loop") then Some DivideLoop
-    else (if bytes_eq name (codes "cut_loop") then Some CutLoop
-    else (if bytes_eq name (codes "mult_loops") then Some MultLoops
-    else (if bytes_eq name (codes "shift_loop") then Some ShiftLoop
-    else (if bytes_eq name (codes "specialize") then Some Specialize
-    else (if bytes_eq name (codes "eliminate_dead_code") then Some EliminateDeadCode
-    else (if bytes_eq name (codes "commute_expr") then Some CommuteExpr
-    else (if bytes_eq name (codes "rename") then Some Rename
-    else (if bytes_eq name (codes "delete_pass") then Some DeletePass
-    else None))))))))
-
-abbrev pub at_or : Option AtCursor → Option Operator → Option Operator
-at_or None other = other
-at_or (Some o) other = Some (At o)
-
--- the operator of that name
-abbrev pub operator_of : List ℕ → Option Operator
-operator_of name = at_or (at_cursor_of name) (other_of name)
+abbrev pub is_operator : List ℕ → Bool
+is_operator name = is_some (operator_of name)

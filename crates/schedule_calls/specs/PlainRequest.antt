@@ -2,6 +2,7 @@
 use Rattle.std.specs.Prelude.{ℕ, List, ◌∷◌, map, option_map}
 use Rattle.exo_tree.specs.PlainPlace.{branch_taken}
 use Rattle.text_expressions.specs.Views.{tree_of}
+use Rattle.exo_reader.specs.Views.{plain_window}
 use Rattle.cursor_patterns.specs.Patterns as patterns
 use Rattle.cursor_patterns.specs.declared.pattern.Pattern.{Pattern}
 use Rattle.cursor_patterns.specs.PlainPattern.{plain_pattern, plain_expr_pattern}
@@ -11,14 +12,14 @@ use Rattle.schedule_calls.specs.Requests as plain
 use Rattle.schedule_calls.specs.Keys as keys
 use Rattle.schedule_calls.specs.Readings.{move, moves}
 use Rattle.schedule_calls.specs.declared.division.TailKeys.{TailKeys}
-use Rattle.schedule_calls.specs.declared.operator.AtCursor.{AtCursor}
-use Rattle.schedule_calls.specs.declared.operator.AtCursor.TheVariants as at_cursor
 use Rattle.schedule_calls.specs.declared.request.Source.{Source}
 use Rattle.schedule_calls.specs.declared.request.Source.TheVariants as from
 use Rattle.schedule_calls.specs.declared.request.Asked.{Asked}
 use Rattle.schedule_calls.specs.declared.request.Tail.{Tail}
 use Rattle.schedule_calls.specs.declared.request.Tail.TheVariants as tail
 use Rattle.schedule_calls.specs.declared.request.Division.{Division}
+use Rattle.schedule_calls.specs.declared.request.Change.{Change}
+use Rattle.schedule_calls.specs.declared.request.Change.TheVariants as change
 use Rattle.schedule_calls.specs.declared.request.Operation.{Operation}
 use Rattle.schedule_calls.specs.declared.request.Operation.TheVariants as operation
 use Rattle.schedule_calls.specs.declared.request.Request.{Request}
@@ -52,40 +53,28 @@ abbrev pub plain_division : Division → plain.Division
 plain_division d =
     record { by = d.by; outer = d.outer; inner = d.inner; tail = plain_tail d.tail }
 
-abbrev pub plain_operation : Operation → plain.Operation
-plain_operation (operation.DivideLoop at d) =
-    plain.DivideLoop (plain_asked at.value) (plain_division d.value)
-plain_operation (operation.CutLoop at e) = plain.CutLoop (plain_asked at.value) (tree_of e.value)
-plain_operation (operation.MultLoops at name) = plain.MultLoops (plain_asked at.value) name
-plain_operation (operation.ShiftLoop at e) =
-    plain.ShiftLoop (plain_asked at.value) (tree_of e.value)
-plain_operation (operation.ReorderLoops at) = plain.ReorderLoops (plain_asked at.value)
-plain_operation (operation.Fission at) = plain.Fission (plain_asked at.value)
-plain_operation (operation.Fuse at) = plain.Fuse (plain_asked at.value)
-plain_operation (operation.JoinLoops at) = plain.JoinLoops (plain_asked at.value)
-plain_operation (operation.UnrollLoop at) = plain.UnrollLoop (plain_asked at.value)
-plain_operation (operation.RemoveLoop at) = plain.RemoveLoop (plain_asked at.value)
-plain_operation (operation.LiftScope at) = plain.LiftScope (plain_asked at.value)
-plain_operation (operation.Specialize at c) =
-    plain.Specialize (plain_asked at.value) (tree_of c.value)
-plain_operation (operation.EliminateDeadCode at keep) =
-    plain.EliminateDeadCode (plain_asked at.value) (option_map branch_taken keep)
-plain_operation (operation.ReorderStmts at) = plain.ReorderStmts (plain_asked at.value)
-plain_operation (operation.CommuteExpr at x) =
-    plain.CommuteExpr (plain_asked at.value) (plain_expr_pattern x)
-plain_operation (operation.Rename name) = plain.Rename name
-plain_operation operation.DeletePass = plain.DeletePass
+abbrev pub plain_change : Change → plain.Change
+plain_change (change.Alone o) = plain.Alone o
+plain_change (change.WithControl o e) = plain.WithControl o (tree_of e.value)
+plain_change (change.WithWord o word) = plain.WithWord o word.now
+plain_change (change.MultLoops name) = plain.MultLoops name
+plain_change (change.Specialize c) = plain.Specialize (tree_of c.value)
+plain_change (change.CommuteExpr x) = plain.CommuteExpr (plain_expr_pattern x)
+plain_change (change.BindExpr x name) = plain.BindExpr (plain_expr_pattern x) name
+plain_change (change.ExpandDim size point) =
+    plain.ExpandDim (tree_of size.value) (tree_of point.value)
+plain_change (change.StageMem w name accum) = plain.StageMem (plain_window w.value) name accum
+plain_change (change.WriteConfig config field e) =
+    plain.WriteConfig config.now field (tree_of e.value)
+plain_change (change.BindConfig param config field) = plain.BindConfig param config.now field
+plain_change (change.DivideLoop d) = plain.DivideLoop (plain_division d.value)
+plain_change (change.EliminateDeadCode keep) =
+    plain.EliminateDeadCode (option_map branch_taken keep)
 
--- what an operator asks that takes a cursor and nothing more
-abbrev pub operation_at : AtCursor → plain.Asked → plain.Operation
-operation_at at_cursor.ReorderLoops at = plain.ReorderLoops at
-operation_at at_cursor.Fission at = plain.Fission at
-operation_at at_cursor.Fuse at = plain.Fuse at
-operation_at at_cursor.JoinLoops at = plain.JoinLoops at
-operation_at at_cursor.UnrollLoop at = plain.UnrollLoop at
-operation_at at_cursor.RemoveLoop at = plain.RemoveLoop at
-operation_at at_cursor.LiftScope at = plain.LiftScope at
-operation_at at_cursor.ReorderStmts at = plain.ReorderStmts at
+abbrev pub plain_operation : Operation → plain.Operation
+plain_operation (operation.At asked c) = plain.At (plain_asked asked.value) (plain_change c)
+plain_operation (operation.Whole o) = plain.Whole o
+plain_operation (operation.Rename name) = plain.Rename name
 
 abbrev pub plain_request : Request → plain.Request
 plain_request (request.Apply bind of o) = plain.Apply bind.now of.now (plain_operation o)

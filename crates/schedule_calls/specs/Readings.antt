@@ -1,16 +1,17 @@
 -- How a line asks for something: the strings in it are patterns and names, and the arguments of an
 -- operator have its forms.
 use Rattle.std.specs.Prelude.{◌≡◌, ℕ, Bool, true, false, ◌||◌, not, List, [], ◌∷◌}
-use Rattle.std.specs.Prelude.{Option, Some, None, map, codes}
-use Rattle.std.specs.Str.{bytes_eq}
+use Rattle.std.specs.Prelude.{Option, Some, None, map}
+use Rattle.std.specs.List.{list_all}
 use Rattle.exo_tree.specs.Places.{Branch}
 use Rattle.text_lexer.specs.declared.token.Literal.{Literal}
 use Rattle.text_lexer.specs.declared.token.Literal.TheVariants.{Value}
 use Rattle.text_phrases.specs.Text.{IsText}
 use Rattle.text_expressions.specs.Expression.{Tree, control}
 use Rattle.exo_reader.specs.Items.{joined}
-use Rattle.exo_reader.specs.Strings.{line_tokens_of}
+use Rattle.exo_reader.specs.Strings.{line_tokens_of, window}
 use Rattle.rules_names.specs.Arguments.{is_control_form, is_condition_form}
+use Rattle.rules_names.specs.Arguments.{is_coordinate_form}
 use Rattle.schedule_text.specs.Tree as tree
 use Rattle.schedule_text.specs.declared.source.Direction.{Direction}
 use Rattle.schedule_text.specs.declared.source.Direction.TheVariants as way
@@ -20,13 +21,22 @@ use Rattle.schedule_patterns.specs.Texts.{IsPattern}
 use Rattle.cursor_patterns.specs.Patterns.{Pattern, ExprPattern}
 use Rattle.schedule_calls.specs.Requests.{Move, Parent, Next, Prev, Body, Before, After, Expand}
 use Rattle.schedule_calls.specs.Requests.{Item}
-use Rattle.schedule_calls.specs.Requests.{Asked, Under, Found, Here, Division, Operation}
-use Rattle.schedule_calls.specs.Requests.{DivideLoop, CutLoop, MultLoops, ShiftLoop}
-use Rattle.schedule_calls.specs.Requests.{ReorderLoops, Fission, Fuse, JoinLoops, UnrollLoop}
-use Rattle.schedule_calls.specs.Requests.{RemoveLoop, LiftScope, Specialize, EliminateDeadCode}
-use Rattle.schedule_calls.specs.Requests.{ReorderStmts, CommuteExpr, Rename, DeletePass}
+use Rattle.schedule_calls.specs.Requests.{Asked, Under, Found, Here, Division, Window}
+use Rattle.schedule_calls.specs.Requests.{Change, Alone, WithControl, WithWord, MultLoops}
+use Rattle.schedule_calls.specs.Requests.{Specialize, CommuteExpr, BindExpr, ExpandDim, StageMem}
+use Rattle.schedule_calls.specs.Requests.{WriteConfig, BindConfig, DivideLoop, EliminateDeadCode}
+use Rattle.schedule_calls.specs.Requests.{Operation, At, Whole, Rename}
 use Rattle.schedule_calls.specs.Requests.{Request, Apply, Search, Moved, Emit}
-use Rattle.schedule_calls.specs.Keys.{tail_in, keep_in}
+use Rattle.schedule_calls.specs.Keys.{tail_in, keep_in, accum_in}
+use Rattle.schedule_calls.specs.Operators.{operator_of, is_operator}
+use Rattle.schedule_calls.specs.declared.operator.CursorOperator.{CursorOperator}
+use Rattle.schedule_calls.specs.declared.operator.ControlOperator.{ControlOperator}
+use Rattle.schedule_calls.specs.declared.operator.WordOperator.{WordOperator}
+use Rattle.schedule_calls.specs.declared.operator.WholeOperator.{WholeOperator}
+use Rattle.schedule_calls.specs.declared.operator.ChangeOperator.{ChangeOperator}
+use Rattle.schedule_calls.specs.declared.operator.ChangeOperator.TheVariants as kind
+use Rattle.schedule_calls.specs.declared.operator.Operator.{Operator}
+use Rattle.schedule_calls.specs.declared.operator.Operator.TheVariants as operator
 
 -- ---- moves
 
@@ -77,6 +87,20 @@ pub record IsConditionOf (pieces : List (List ℕ)) (e : Tree) : Type 0 where
   pub written : IsExpressionOf pieces e
   pub form : is_condition_form e ≡ true
 
+-- of either form
+pub record IsEitherOf (pieces : List (List ℕ)) (e : Tree) : Type 0 where
+  pub written : IsExpressionOf pieces e
+  pub form : (is_control_form e || is_condition_form e) ≡ true
+
+-- a window, with the limits of an argument's
+abbrev pub IsAnyWindowOf : List (List ℕ) → Window → Type 0
+IsAnyWindowOf pieces w = IsText window (line_tokens_of (joined pieces)) w
+
+-- with control values as its coordinates
+pub record IsWindowOf (pieces : List (List ℕ)) (w : Window) : Type 0 where
+  pub written : IsAnyWindowOf pieces w
+  pub form : list_all is_coordinate_form w.1 ≡ true
+
 -- ---- arguments
 
 -- a name and nothing more
@@ -95,12 +119,6 @@ pub data AsksCursor : tree.Argument → Asked → Type 0 where
   here : (pieces : List (List ℕ)) (p : Pattern) (nth : ℕ)
       → IsPatternOf pieces p nth
       → AsksCursor (tree.string pieces) (record { source = Here p nth; moves = [] })
-
--- a cursor and nothing more
-abbrev pub AsksOnlyCursor : List tree.Argument → Asked → Type 0
-AsksOnlyCursor [] at = ⊥
-AsksOnlyCursor (a ∷ []) at = AsksCursor a at
-AsksOnlyCursor (a ∷ b ∷ more) at = ⊥
 
 abbrev pub AsksExpression : tree.Argument → ExprPattern → Type 0
 AsksExpression (tree.string pieces) x = IsExprPatternOf pieces x
@@ -122,6 +140,14 @@ abbrev pub AsksCondition : tree.Argument → Tree → Type 0
 AsksCondition (tree.string pieces) e = IsConditionOf pieces e
 AsksCondition other e = ⊥
 
+abbrev pub AsksEither : tree.Argument → Tree → Type 0
+AsksEither (tree.string pieces) e = IsEitherOf pieces e
+AsksEither other e = ⊥
+
+abbrev pub AsksWindow : tree.Argument → Window → Type 0
+AsksWindow (tree.string pieces) w = IsWindowOf pieces w
+AsksWindow other w = ⊥
+
 abbrev pub number_in : tree.Argument → Option ℕ
 number_in (tree.int n) = Some (number_of n)
 number_in other = None
@@ -135,100 +161,75 @@ pub record AsksDivision (a b : tree.Argument) (keys : List tree.Argument) (d : D
 
 -- ---- operators
 
--- by its name, with the arguments behind the first; `args` is a cursor alone
-pub data AsksOperation : List ℕ → List tree.Argument → Operation → Type 0 where
-  divide_loop : (a b c : tree.Argument) (keys : List tree.Argument) (at : Asked) (d : Division)
-      → AsksCursor a at
-      → AsksDivision b c keys d
-      → AsksOperation (codes "divide_loop") (a ∷ b ∷ c ∷ keys) (DivideLoop at d)
-  cut_loop : (a b : tree.Argument) (at : Asked) (e : Tree)
-      → AsksCursor a at
-      → AsksControl b e
-      → AsksOperation (codes "cut_loop") (a ∷ b ∷ []) (CutLoop at e)
-  mult_loops : (a b : tree.Argument) (at : Asked) (name : List ℕ)
-      → AsksCursor a at
+-- what an operator asks at a cursor, by its arguments behind that one
+pub data AsksChange : ChangeOperator → List tree.Argument → Change → Type 0 where
+  alone : (o : CursorOperator) → AsksChange (kind.Alone o) [] (Alone o)
+  with_control : (o : ControlOperator) (a : tree.Argument) (e : Tree)
+      → AsksControl a e
+      → AsksChange (kind.WithControl o) (a ∷ []) (WithControl o e)
+  with_word : (o : WordOperator) (a : tree.Argument) (word : List ℕ)
+      → IsWord a word
+      → AsksChange (kind.WithWord o) (a ∷ []) (WithWord o word)
+  mult_loops : (a : tree.Argument) (name : List ℕ)
+      → AsksName a name
+      → AsksChange kind.MultLoops (a ∷ []) (MultLoops name)
+  specialize : (a : tree.Argument) (c : Tree)
+      → AsksCondition a c
+      → AsksChange kind.Specialize (a ∷ []) (Specialize c)
+  commute_expr : (a : tree.Argument) (x : ExprPattern)
+      → AsksExpression a x
+      → AsksChange kind.CommuteExpr (a ∷ []) (CommuteExpr x)
+  bind_expr : (a b : tree.Argument) (x : ExprPattern) (name : List ℕ)
+      → AsksExpression a x
       → AsksName b name
-      → AsksOperation (codes "mult_loops") (a ∷ b ∷ []) (MultLoops at name)
-  shift_loop : (a b : tree.Argument) (at : Asked) (e : Tree)
-      → AsksCursor a at
-      → AsksControl b e
-      → AsksOperation (codes "shift_loop") (a ∷ b ∷ []) (ShiftLoop at e)
-  reorder_loops : (args : List tree.Argument) (at : Asked)
-      → AsksOnlyCursor args at
-      → AsksOperation (codes "reorder_loops") args (ReorderLoops at)
-  fission : (args : List tree.Argument) (at : Asked)
-      → AsksOnlyCursor args at
-      → AsksOperation (codes "fission") args (Fission at)
-  fuse : (args : List tree.Argument) (at : Asked)
-      → AsksOnlyCursor args at
-      → AsksOperation (codes "fuse") args (Fuse at)
-  join_loops : (args : List tree.Argument) (at : Asked)
-      → AsksOnlyCursor args at
-      → AsksOperation (codes "join_loops") args (JoinLoops at)
-  unroll_loop : (args : List tree.Argument) (at : Asked)
-      → AsksOnlyCursor args at
-      → AsksOperation (codes "unroll_loop") args (UnrollLoop at)
-  remove_loop : (args : List tree.Argument) (at : Asked)
-      → AsksOnlyCursor args at
-      → AsksOperation (codes "remove_loop") args (RemoveLoop at)
-  lift_scope : (args : List tree.Argument) (at : Asked)
-      → AsksOnlyCursor args at
-      → AsksOperation (codes "lift_scope") args (LiftScope at)
-  specialize : (a b : tree.Argument) (at : Asked) (c : Tree)
-      → AsksCursor a at
-      → AsksCondition b c
-      → AsksOperation (codes "specialize") (a ∷ b ∷ []) (Specialize at c)
-  eliminate_dead_code :
-      (a : tree.Argument) (keys : List tree.Argument) (at : Asked) (keep : Option Branch)
-      → AsksCursor a at
+      → AsksChange kind.BindExpr (a ∷ b ∷ []) (BindExpr x name)
+  expand_dim : (a b : tree.Argument) (size point : Tree)
+      → AsksControl a size
+      → AsksControl b point
+      → AsksChange kind.ExpandDim (a ∷ b ∷ []) (ExpandDim size point)
+  stage_mem : (a b : tree.Argument) (keys : List tree.Argument)
+      → (w : Window) (name : List ℕ) (accum : Bool)
+      → AsksWindow a w
+      → AsksName b name
+      → accum_in keys ≡ Some accum
+      → AsksChange kind.StageMem (a ∷ b ∷ keys) (StageMem w name accum)
+  write_config : (a b c : tree.Argument) (config field : List ℕ) (e : Tree)
+      → IsWord a config
+      → AsksName b field
+      → AsksEither c e
+      → AsksChange kind.WriteConfig (a ∷ b ∷ c ∷ []) (WriteConfig config field e)
+  bind_config : (a b c : tree.Argument) (param config field : List ℕ)
+      → AsksName a param
+      → IsWord b config
+      → AsksName c field
+      → AsksChange kind.BindConfig (a ∷ b ∷ c ∷ []) (BindConfig param config field)
+  divide_loop : (a b : tree.Argument) (keys : List tree.Argument) (d : Division)
+      → AsksDivision a b keys d
+      → AsksChange kind.DivideLoop (a ∷ b ∷ keys) (DivideLoop d)
+  eliminate_dead_code : (keys : List tree.Argument) (keep : Option Branch)
       → keep_in keys ≡ Some keep
-      → AsksOperation (codes "eliminate_dead_code") (a ∷ keys) (EliminateDeadCode at keep)
-  reorder_stmts : (args : List tree.Argument) (at : Asked)
-      → AsksOnlyCursor args at
-      → AsksOperation (codes "reorder_stmts") args (ReorderStmts at)
-  commute_expr : (a b : tree.Argument) (at : Asked) (x : ExprPattern)
-      → AsksCursor a at
-      → AsksExpression b x
-      → AsksOperation (codes "commute_expr") (a ∷ b ∷ []) (CommuteExpr at x)
+      → AsksChange kind.EliminateDeadCode keys (EliminateDeadCode keep)
+
+-- what an operator asks, by its arguments behind the first
+pub data AsksOperation : Operator → List tree.Argument → Operation → Type 0 where
+  at : (o : ChangeOperator) (a : tree.Argument) (more : List tree.Argument)
+      → (asked : Asked) (change : Change)
+      → AsksCursor a asked
+      → AsksChange o more change
+      → AsksOperation (operator.At o) (a ∷ more) (At asked change)
+  whole : (o : WholeOperator) → AsksOperation (operator.Whole o) [] (Whole o)
   rename : (a : tree.Argument) (name : List ℕ)
       → AsksName a name
-      → AsksOperation (codes "rename") (a ∷ []) (Rename name)
-  delete_pass : AsksOperation (codes "delete_pass") [] DeletePass
-
--- the operators that there are: those that take a cursor and nothing more, and the others
-abbrev pub takes_a_cursor : List ℕ → Bool
-takes_a_cursor name =
-    bytes_eq name (codes "reorder_loops")
-    || (bytes_eq name (codes "fission")
-    || (bytes_eq name (codes "fuse")
-    || (bytes_eq name (codes "join_loops")
-    || (bytes_eq name (codes "unroll_loop")
-    || (bytes_eq name (codes "remove_loop")
-    || (bytes_eq name (codes "lift_scope")
-    || bytes_eq name (codes "reorder_stmts")))))))
-
-abbrev pub takes_otherwise : List ℕ → Bool
-takes_otherwise name =
-    bytes_eq name (codes "divide_loop")
-    || (bytes_eq name (codes "cut_loop")
-    || (bytes_eq name (codes "mult_loops")
-    || (bytes_eq name (codes "shift_loop")
-    || (bytes_eq name (codes "specialize")
-    || (bytes_eq name (codes "eliminate_dead_code")
-    || (bytes_eq name (codes "commute_expr")
-    || (bytes_eq name (codes "rename")
-    || bytes_eq name (codes "delete_pass"))))))))
-
-abbrev pub is_operator : List ℕ → Bool
-is_operator name = takes_a_cursor name || takes_otherwise name
+      → AsksOperation operator.Rename (a ∷ []) (Rename name)
 
 -- ---- lines
 
 pub data Asks : tree.Line → Request → Type 0 where
-  apply : (bind operator of : List ℕ) (args : tree.Arguments) (o : Operation)
+  apply : (bind name of : List ℕ) (args : tree.Arguments) (o : Operator) (operation : Operation)
+      → operator_of name ≡ Some o
       → IsWord args.head of
-      → AsksOperation operator args.more o
-      → Asks (tree.bind bind (tree.operation operator args)) (Apply bind of o)
+      → AsksOperation o args.more operation
+      → Asks (tree.bind bind (tree.operation name args)) (Apply bind of operation)
   search : (bind : List ℕ) (f : tree.Found) (p : Pattern) (nth : ℕ)
       → IsPatternOf f.pattern p nth
       → Asks (tree.bind bind (tree.search f)) (Search bind f.version p nth (moves f.moves))
@@ -238,5 +239,5 @@ pub data Asks : tree.Line → Request → Type 0 where
 
 -- a line names an operator that is not there
 abbrev pub is_unknown : tree.Line → Bool
-is_unknown (tree.bind bind (tree.operation operator args)) = not (is_operator operator)
+is_unknown (tree.bind bind (tree.operation name args)) = not (is_operator name)
 is_unknown other = false

@@ -1,8 +1,13 @@
 -- What a line of a schedule asks for, by its text alone: strings are read, names are not looked up.
-use Rattle.std.specs.Prelude.{ℕ, List, Option}
+use Rattle.std.specs.Prelude.{ℕ, Bool, List, Option}
 use Rattle.exo_tree.specs.Places.{Branch}
 use Rattle.text_expressions.specs.Expression.{Tree}
+use Rattle.exo_reader.specs.Source.{Coordinate}
 use Rattle.cursor_patterns.specs.Patterns.{Pattern, ExprPattern}
+use Rattle.schedule_calls.specs.declared.operator.CursorOperator.{CursorOperator}
+use Rattle.schedule_calls.specs.declared.operator.ControlOperator.{ControlOperator}
+use Rattle.schedule_calls.specs.declared.operator.WordOperator.{WordOperator}
+use Rattle.schedule_calls.specs.declared.operator.WholeOperator.{WholeOperator}
 
 pub data Move : Type 0 where
   Parent Next Prev Body Before After : Move
@@ -32,27 +37,40 @@ pub record Division : Type 0 where
   pub inner : List ℕ
   pub tail : Tail
 
--- An operator with its arguments behind the first. Expressions are as they are written: a control
--- value for `CutLoop` and `ShiftLoop`, a condition for `Specialize`. `EliminateDeadCode` has the
--- branch that is kept, where one is named.
+-- a name and coordinates, one of which at least is a span
+abbrev pub Window : Type 0
+Window = List ℕ × List Coordinate
+
+-- What is asked at a cursor: an operator with its arguments behind that one. Operators whose
+-- arguments have one form are one case. Expressions are as they are written: control values for
+-- `WithControl` and `ExpandDim`, a condition for `Specialize`, either for `WriteConfig`.
+pub data Change : Type 0 where
+  Alone : CursorOperator → Change
+  WithControl : ControlOperator → Tree → Change
+  -- the name of a memory or of a procedure
+  WithWord : WordOperator → List ℕ → Change
+  MultLoops : List ℕ → Change
+  Specialize : Tree → Change
+  CommuteExpr : ExprPattern → Change
+  -- the part of the right side, and the name that it gets
+  BindExpr : ExprPattern → List ℕ → Change
+  -- how many cells the dimension has, and at which of them the buffer is used
+  ExpandDim : Tree → Tree → Change
+  -- the window, the name of the copy, and whether the copy begins at 0 and is added up
+  StageMem : Window → List ℕ → Bool → Change
+  -- the configuration, its field, and what is written
+  WriteConfig : List ℕ → List ℕ → Tree → Change
+  -- the parameter, the configuration, and its field
+  BindConfig : List ℕ → List ℕ → List ℕ → Change
+  DivideLoop : Division → Change
+  -- the branch that is kept, where one is named
+  EliminateDeadCode : Option Branch → Change
+
+-- an operator with its arguments behind the first
 pub data Operation : Type 0 where
-  DivideLoop : Asked → Division → Operation
-  CutLoop : Asked → Tree → Operation
-  MultLoops : Asked → List ℕ → Operation
-  ShiftLoop : Asked → Tree → Operation
-  ReorderLoops : Asked → Operation
-  Fission : Asked → Operation
-  Fuse : Asked → Operation
-  JoinLoops : Asked → Operation
-  UnrollLoop : Asked → Operation
-  RemoveLoop : Asked → Operation
-  LiftScope : Asked → Operation
-  Specialize : Asked → Tree → Operation
-  EliminateDeadCode : Asked → Option Branch → Operation
-  ReorderStmts : Asked → Operation
-  CommuteExpr : Asked → ExprPattern → Operation
+  At : Asked → Change → Operation
+  Whole : WholeOperator → Operation
   Rename : List ℕ → Operation
-  DeletePass : Operation
 
 -- why a line is refused before any name is looked up
 pub data LineFault : Type 0 where

@@ -1,18 +1,23 @@
 //! Arguments of operators.
 
-ghost use Rattle.std.specs.Prelude.{◌≡◌, IfOk, MatchOption, option_map};
+ghost use Rattle.std.specs.Prelude.{◌≡◌, IfOk, option_map};
 ghost use Rattle.cursor_patterns.specs.PlainPattern.{plain_expr_pattern};
 ghost use Rattle.text_expressions.specs.Views.{tree_of};
+ghost use Rattle.exo_reader.specs.Views.{plain_window};
 ghost use Rattle.schedule_text.specs.Views.{plain_argument, plain_cursor, plain_found};
 ghost use Rattle.schedule_text.specs.Tree as tree;
 ghost use Rattle.schedule_calls.specs.Readings.{IsWord, AsksCursor, AsksExpression, AsksName};
-ghost use Rattle.schedule_calls.specs.Readings.{AsksNames, AsksControl, AsksCondition, number_in};
+ghost use Rattle.schedule_calls.specs.Readings.{AsksNames, AsksControl, AsksCondition};
+ghost use Rattle.schedule_calls.specs.Readings.{AsksEither, AsksWindow, number_in};
 ghost use Rattle.schedule_calls.specs.PlainRequest.{plain_asked};
 ghost use Rattle.schedule_calls.specs.Answers.{AsksOne};
 
 use crate::request::{Asked, Source};
-use crate::string::{condition_of, control_of, expression_of, name_of, pattern_of};
+use crate::string::{
+    condition_of, control_of, either_of, expression_of, name_of, pattern_of, window_of,
+};
 use cursor_patterns::ExprPattern;
+use exo_reader::source::SourceWindow;
 use exo_tree::Name;
 use schedule_text::source::{ArgText, CursorText, Found, Quoted};
 use std::alloc::{AllocError, Global};
@@ -36,7 +41,7 @@ pub fn word_of(arg: &ArgText) -> Option<&Text>
 
 /// `find(NAME, STRING)` with moves.
 fn found_of(alloc: Global, found: &Found) -> Result<Option<Asked<'_>>, AllocError>
-    ensures { IfOk result (λ asked. AsksOne (AsksCursor (tree.cursor (tree.found (plain_found found.now)))) plain_asked asked) }
+    ensures { IfOk result (AsksOne (AsksCursor (tree.cursor (tree.found (plain_found found.now)))) plain_asked) }
 {
     match pattern_of(alloc, &found.pattern)? {
         Some((pattern, nth)) => Ok(Some(Asked {
@@ -49,7 +54,7 @@ fn found_of(alloc: Global, found: &Found) -> Result<Option<Asked<'_>>, AllocErro
 
 /// A string in the place of a cursor.
 fn here_of(alloc: Global, string: &Quoted) -> Result<Option<Asked<'static>>, AllocError>
-    ensures { IfOk result (λ asked. AsksOne (AsksCursor (tree.string string.now.pieces.items)) plain_asked asked) }
+    ensures { IfOk result (AsksOne (AsksCursor (tree.string string.now.pieces.items)) plain_asked) }
 {
     match pattern_of(alloc, string)? {
         Some((pattern, nth)) => Ok(Some(Asked {
@@ -62,7 +67,7 @@ fn here_of(alloc: Global, string: &Quoted) -> Result<Option<Asked<'static>>, All
 
 /// A cursor as it is written.
 fn written_of(alloc: Global, cursor: &CursorText) -> Result<Option<Asked<'_>>, AllocError>
-    ensures { IfOk result (λ asked. AsksOne (AsksCursor (tree.cursor (plain_cursor cursor.now))) plain_asked asked) }
+    ensures { IfOk result (AsksOne (AsksCursor (tree.cursor (plain_cursor cursor.now))) plain_asked) }
 {
     match cursor {
         CursorText::Held(name, moves) => Ok(Some(Asked {
@@ -75,7 +80,7 @@ fn written_of(alloc: Global, cursor: &CursorText) -> Result<Option<Asked<'_>>, A
 
 /// A cursor or a string in its place.
 fn asked_of(alloc: Global, arg: &ArgText) -> Result<Option<Asked<'_>>, AllocError>
-    ensures { IfOk result (λ asked. AsksOne (AsksCursor (plain_argument arg.now)) plain_asked asked) }
+    ensures { IfOk result (AsksOne (AsksCursor (plain_argument arg.now)) plain_asked) }
 {
     match arg {
         ArgText::Cursor(cursor) => written_of(alloc, cursor),
@@ -86,7 +91,7 @@ fn asked_of(alloc: Global, arg: &ArgText) -> Result<Option<Asked<'_>>, AllocErro
 
 /// The cursor that the argument asks for.
 pub fn cursor_of(alloc: Global, arg: &ArgText) -> Result<Option<Box<Asked<'_>>>, AllocError>
-    ensures { IfOk result (λ asked. AsksOne (AsksCursor (plain_argument arg.now)) (λ a. plain_asked a.value) asked) }
+    ensures { IfOk result (AsksOne (AsksCursor (plain_argument arg.now)) (λ a. plain_asked a.value)) }
 {
     match asked_of(alloc, arg)? {
         Some(asked) => Ok(Some(Box::new(alloc, asked)?)),
@@ -96,7 +101,7 @@ pub fn cursor_of(alloc: Global, arg: &ArgText) -> Result<Option<Box<Asked<'_>>>,
 
 /// The pattern of expressions that the argument is.
 pub fn expression_in(alloc: Global, arg: &ArgText) -> Result<Option<ExprPattern>, AllocError>
-    ensures { IfOk result (λ found. AsksOne (AsksExpression (plain_argument arg.now)) plain_expr_pattern found) }
+    ensures { IfOk result (AsksOne (AsksExpression (plain_argument arg.now)) plain_expr_pattern) }
 {
     match arg {
         ArgText::Str(string) => expression_of(alloc, string),
@@ -106,7 +111,7 @@ pub fn expression_in(alloc: Global, arg: &ArgText) -> Result<Option<ExprPattern>
 
 /// The name that the argument is as a string.
 pub fn name_in(alloc: Global, arg: &ArgText) -> Result<Option<Name>, AllocError>
-    ensures { IfOk result (λ found. AsksOne (AsksName (plain_argument arg.now)) (λ x. x) found) }
+    ensures { IfOk result (AsksOne (AsksName (plain_argument arg.now)) (λ x. x)) }
 {
     match arg {
         ArgText::Str(string) => name_of(alloc, string),
@@ -116,7 +121,7 @@ pub fn name_in(alloc: Global, arg: &ArgText) -> Result<Option<Name>, AllocError>
 
 /// The names that the argument is as a pair of strings.
 pub fn names_in(alloc: Global, arg: &ArgText) -> Result<Option<(Name, Name)>, AllocError>
-    ensures { IfOk result (λ found. AsksOne (AsksNames (plain_argument arg.now)) (λ x. (x.0, x.1)) found) }
+    ensures { IfOk result (AsksOne (AsksNames (plain_argument arg.now)) (λ x. (x.0, x.1))) }
 {
     let ArgText::Pair(first, second) = arg else {
         return Ok(None);
@@ -132,7 +137,7 @@ pub fn names_in(alloc: Global, arg: &ArgText) -> Result<Option<(Name, Name)>, Al
 
 /// The control value that the argument is as a string.
 pub fn control_in(alloc: Global, arg: &ArgText) -> Result<Option<Box<SourceExpr>>, AllocError>
-    ensures { IfOk result (λ found. AsksOne (AsksControl (plain_argument arg.now)) (λ e. tree_of e.value) found) }
+    ensures { IfOk result (AsksOne (AsksControl (plain_argument arg.now)) (λ e. tree_of e.value)) }
 {
     match arg {
         ArgText::Str(string) => control_of(alloc, string),
@@ -142,10 +147,30 @@ pub fn control_in(alloc: Global, arg: &ArgText) -> Result<Option<Box<SourceExpr>
 
 /// The condition that the argument is as a string.
 pub fn condition_in(alloc: Global, arg: &ArgText) -> Result<Option<Box<SourceExpr>>, AllocError>
-    ensures { IfOk result (λ found. AsksOne (AsksCondition (plain_argument arg.now)) (λ e. tree_of e.value) found) }
+    ensures { IfOk result (AsksOne (AsksCondition (plain_argument arg.now)) (λ e. tree_of e.value)) }
 {
     match arg {
         ArgText::Str(string) => condition_of(alloc, string),
+        _ => Ok(None),
+    }
+}
+
+/// The control value or the condition that the argument is as a string.
+pub fn either_in(alloc: Global, arg: &ArgText) -> Result<Option<Box<SourceExpr>>, AllocError>
+    ensures { IfOk result (AsksOne (AsksEither (plain_argument arg.now)) (λ e. tree_of e.value)) }
+{
+    match arg {
+        ArgText::Str(string) => either_of(alloc, string),
+        _ => Ok(None),
+    }
+}
+
+/// The window that the argument is as a string.
+pub fn window_in(alloc: Global, arg: &ArgText) -> Result<Option<Box<SourceWindow>>, AllocError>
+    ensures { IfOk result (AsksOne (AsksWindow (plain_argument arg.now)) (λ w. plain_window w.value)) }
+{
+    match arg {
+        ArgText::Str(string) => window_of(alloc, string),
         _ => Ok(None),
     }
 }

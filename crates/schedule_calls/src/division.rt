@@ -50,7 +50,8 @@ fn tail_of(alloc: Global, value: &KeyValue) -> Result<Option<Tail>, AllocError>
     }
 }
 
-fn flag_of(value: &KeyValue) -> Option<bool>
+/// The truth value that it is.
+pub fn flag_of(value: &KeyValue) -> Option<bool>
     ensures { result ≡ flag_of_value (plain_key_value value.now) }
 {
     match value {

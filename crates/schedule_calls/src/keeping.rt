@@ -1,15 +1,27 @@
-//! The branch of a condition that is kept, by its key.
+//! Arguments that may be one with a key: the branch of a condition that is kept, and whether a copy is
+//! added up.
 
 ghost use Rattle.std.specs.Prelude.{◌≡◌, IfOk, map, option_map};
 ghost use Rattle.exo_tree.specs.PlainPlace.{branch_taken};
 ghost use Rattle.schedule_text.specs.Views.{plain_argument, plain_key_value};
-ghost use Rattle.schedule_calls.specs.Keys.{branch_named, branch_of_value, branch_of_key};
-ghost use Rattle.schedule_calls.specs.Keys.{branch_of_argument, keep_in};
+ghost use Rattle.schedule_calls.specs.Keys.{value_under, branch_named, branch_of_value};
+ghost use Rattle.schedule_calls.specs.Keys.{keep_in, accum_in};
 
+use crate::division::flag_of;
 use exo_tree::Branch;
 use schedule_text::source::{ArgText, KeyValue};
 use std::alloc::{AllocError, Global};
-use text_lexer::text::Text;
+
+/// The value under the key, where there is an argument; None where the arguments are others.
+fn value_under<'a>(key: &[u8], args: &'a [ArgText]) -> Option<Option<&'a KeyValue>>
+    ensures { option_map (option_map (λ v. plain_key_value v.now)) result ≡ value_under key.now (map plain_argument args.now) }
+{
+    match args {
+        [] => Some(None),
+        [ArgText::Key(name, value)] if name.as_slice() == key => Some(Some(value)),
+        _ => None,
+    }
+}
 
 /// The branch of that name.
 fn branch_named(name: &[u8]) -> Option<Branch>
@@ -37,36 +49,28 @@ fn branch_of_value(alloc: Global, value: &KeyValue) -> Result<Option<Branch>, Al
     }
 }
 
-fn branch_of_key(alloc: Global, name: &Text, value: &KeyValue) -> Result<Option<Branch>, AllocError>
-    ensures { IfOk result (λ b. option_map branch_taken b ≡ branch_of_key name.now (plain_key_value value.now)) }
-{
-    if name.as_slice() == b"keep".as_slice() {
-        return branch_of_value(alloc, value);
-    }
-    Ok(None)
-}
-
-/// The branch that the argument names by its key.
-fn branch_of(alloc: Global, arg: &ArgText) -> Result<Option<Branch>, AllocError>
-    ensures { IfOk result (λ b. option_map branch_taken b ≡ branch_of_argument (plain_argument arg.now)) }
-{
-    match arg {
-        ArgText::Key(name, value) => branch_of_key(alloc, name, value),
-        _ => Ok(None),
-    }
-}
-
 /// The branch that the arguments with keys ask for, where there is one; None where they are
 /// refused.
 pub fn keep_in(alloc: Global, keys: &[ArgText]) -> Result<Option<Option<Branch>>, AllocError>
     ensures { IfOk result (λ k. option_map (option_map branch_taken) k ≡ keep_in (map plain_argument keys.now)) }
 {
-    match keys {
-        [] => Ok(Some(None)),
-        [key] => match branch_of(alloc, key)? {
+    match value_under(b"keep", keys) {
+        None => Ok(None),
+        Some(None) => Ok(Some(None)),
+        Some(Some(value)) => match branch_of_value(alloc, value)? {
             Some(branch) => Ok(Some(Some(branch))),
             None => Ok(None),
         },
-        _ => Ok(None),
+    }
+}
+
+/// Whether the arguments with keys ask for a copy that is added up; None where they are refused.
+pub fn accum_in(keys: &[ArgText]) -> Option<bool>
+    ensures { result ≡ accum_in (map plain_argument keys.now) }
+{
+    match value_under(b"accum", keys) {
+        None => None,
+        Some(None) => Some(false),
+        Some(Some(value)) => flag_of(value),
     }
 }

@@ -3,13 +3,16 @@
 #![tactic(auto)]
 
 mod argument;
+mod change;
 mod division;
 mod keeping;
 pub mod laws;
 mod line;
+mod operation;
 mod operator;
 mod request;
 mod string;
 
 pub use line::read_line;
-pub use request::{Asked, Division, LineFault, Operation, Request, Source, Tail};
+pub use operator::{ControlOperator, CursorOperator, WholeOperator, WordOperator};
+pub use request::{Asked, Change, Division, LineFault, Operation, Request, Source, Tail};

@@ -6,7 +6,8 @@ ghost use Rattle.schedule_text.specs.Tree as tree;
 ghost use Rattle.schedule_calls.specs.Answers.{IsAnswer};
 
 use crate::argument::word_of;
-use crate::operator::{operation_of, operator_of};
+use crate::operation::operation_of;
+use crate::operator::operator_of;
 use crate::request::{LineFault, Request};
 use crate::string::pattern_of;
 use schedule_text::source::{Act, Arguments, Found, Line, Statement};

@@ -1,6 +1,8 @@
 //! What a line asks for. Names and moves are those of the line.
 
+use crate::operator::{ControlOperator, CursorOperator, WholeOperator, WordOperator};
 use cursor_patterns::{ExprPattern, Pattern};
+use exo_reader::source::SourceWindow;
 use exo_tree::{Branch, Name};
 use schedule_text::source::Move;
 use text_expressions::source::SourceExpr;
@@ -49,42 +51,45 @@ pub struct Division {
     pub tail: Tail,
 }
 
+/// What is asked at a cursor: an operator with its arguments behind that one.
+#[derive(Drop)]
+pub enum Change<'a> {
+    Alone(CursorOperator),
+    /// The control value.
+    WithControl(ControlOperator, Box<SourceExpr>),
+    /// The name of a memory or of a procedure.
+    WithWord(WordOperator, &'a Text),
+    /// The name of the loop that two become.
+    MultLoops(Name),
+    /// The condition that tells two copies apart.
+    Specialize(Box<SourceExpr>),
+    /// The part of the right side.
+    CommuteExpr(ExprPattern),
+    /// The part of the right side, and the name that it gets.
+    BindExpr(ExprPattern, Name),
+    /// How many cells the dimension has, and at which of them the buffer is used.
+    ExpandDim(Box<SourceExpr>, Box<SourceExpr>),
+    /// The window, the name of the copy, and whether the copy begins at 0 and is added up.
+    StageMem(Box<SourceWindow>, Name, bool),
+    /// The configuration, its field, and what is written: a control value or a condition.
+    WriteConfig(&'a Text, Name, Box<SourceExpr>),
+    /// The parameter, the configuration, and its field.
+    BindConfig(Name, &'a Text, Name),
+    /// How the turns of the loop are divided.
+    DivideLoop(Box<Division>),
+    /// The branch that is kept, where one is named.
+    EliminateDeadCode(Option<Branch>),
+}
+
 /// An operator with its arguments behind the first.
 #[derive(Drop)]
 pub enum Operation<'a> {
-    /// The loop, and how its turns are divided.
-    DivideLoop(Box<Asked<'a>>, Box<Division>),
-    /// The loop, and the control value at which it is cut.
-    CutLoop(Box<Asked<'a>>, Box<SourceExpr>),
-    /// The outer loop of the two, and the name of the loop that they become.
-    MultLoops(Box<Asked<'a>>, Name),
-    /// The loop, and the control value from which it then runs.
-    ShiftLoop(Box<Asked<'a>>, Box<SourceExpr>),
-    /// The outer loop of the two.
-    ReorderLoops(Box<Asked<'a>>),
-    /// The gap in the loop's body.
-    Fission(Box<Asked<'a>>),
-    /// The first loop of the two.
-    Fuse(Box<Asked<'a>>),
-    /// The first loop of the two.
-    JoinLoops(Box<Asked<'a>>),
-    /// The loop.
-    UnrollLoop(Box<Asked<'a>>),
-    /// The loop.
-    RemoveLoop(Box<Asked<'a>>),
-    /// The condition or the loop that is to stand outside.
-    LiftScope(Box<Asked<'a>>),
-    /// The statements, and the condition that tells their two copies apart.
-    Specialize(Box<Asked<'a>>, Box<SourceExpr>),
-    /// A loop that has no turn; or a condition, and which branch of it is kept.
-    EliminateDeadCode(Box<Asked<'a>>, Option<Branch>),
-    /// The first statement of the two.
-    ReorderStmts(Box<Asked<'a>>),
-    /// The statement, and which part of its right side.
-    CommuteExpr(Box<Asked<'a>>, ExprPattern),
+    /// At a cursor.
+    At(Box<Asked<'a>>, Change<'a>),
+    /// On the whole procedure.
+    Whole(WholeOperator),
     /// The new name.
     Rename(Name),
-    DeletePass,
 }
 
 /// What a line asks for; the first name is the one that is bound.

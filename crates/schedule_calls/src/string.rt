@@ -1,17 +1,22 @@
 //! Strings of a schedule as what their place asks.
 
-ghost use Rattle.std.specs.Prelude.{◌≡◌, None, IfOk, MatchOption};
+ghost use Rattle.std.specs.Prelude.{◌≡◌, None, IfOk, map};
+ghost use Rattle.std.specs.List.{list_all};
 ghost use Rattle.cursor_patterns.specs.PlainPattern.{plain_expr_pattern};
 ghost use Rattle.text_expressions.specs.Views.{tree_of};
+ghost use Rattle.exo_reader.specs.Views.{plain_coordinate, plain_window};
+ghost use Rattle.rules_names.specs.Arguments.{is_coordinate_form};
 ghost use Rattle.exo_reader.specs.declared.unit.ReadKind.TheVariants as kind;
 ghost use Rattle.schedule_calls.specs.Readings.{IsPatternIn, IsExprPatternOf, IsNameOf};
 ghost use Rattle.schedule_calls.specs.Readings.{IsExpressionOf, IsControlOf, IsConditionOf};
+ghost use Rattle.schedule_calls.specs.Readings.{IsEitherOf, IsAnyWindowOf, IsWindowOf};
 ghost use Rattle.schedule_calls.specs.PlainRequest.{plain_found};
 ghost use Rattle.schedule_calls.specs.Answers.{AsksOne};
 
 use cursor_patterns::{ExprPattern, Pattern};
-use exo_reader::laws::expressions_are_one;
-use exo_reader::string::read_expr;
+use exo_reader::laws::{expressions_are_one, windows_are_one};
+use exo_reader::source::{SourceCoord, SourceWindow};
+use exo_reader::string::{read_expr, read_window};
 use exo_reader::unit::{ReadError, ReadKind};
 use exo_tree::Name;
 use rules_names::argument::{is_condition_form, is_control_form};
@@ -33,7 +38,7 @@ fn refused(e: &ReadError) -> Result<(), AllocError>
 
 /// The pattern of statements that the string is, with its number.
 pub fn pattern_of(alloc: Global, string: &Quoted) -> Result<Option<(Pattern, u32)>, AllocError>
-    ensures { IfOk result (λ found. AsksOne (IsPatternIn string.now.pieces.items) plain_found found) }
+    ensures { IfOk result (AsksOne (IsPatternIn string.now.pieces.items) plain_found) }
 {
     let bytes = string.bytes(alloc)?;
     match read_pattern(alloc, bytes.as_slice()) {
@@ -48,7 +53,7 @@ pub fn pattern_of(alloc: Global, string: &Quoted) -> Result<Option<(Pattern, u32
 
 /// The pattern of expressions that the string is.
 pub fn expression_of(alloc: Global, string: &Quoted) -> Result<Option<ExprPattern>, AllocError>
-    ensures { IfOk result (λ found. AsksOne (IsExprPatternOf string.now.pieces.items) plain_expr_pattern found) }
+    ensures { IfOk result (AsksOne (IsExprPatternOf string.now.pieces.items) plain_expr_pattern) }
 {
     let bytes = string.bytes(alloc)?;
     match read_expr_pattern(alloc, bytes.as_slice()) {
@@ -63,7 +68,7 @@ pub fn expression_of(alloc: Global, string: &Quoted) -> Result<Option<ExprPatter
 
 /// The name that the string is.
 pub fn name_of(alloc: Global, string: &Quoted) -> Result<Option<Name>, AllocError>
-    ensures { IfOk result (λ found. AsksOne (IsNameOf string.now.pieces.items) (λ x. x) found) }
+    ensures { IfOk result (AsksOne (IsNameOf string.now.pieces.items) (λ x. x)) }
 {
     let bytes = string.bytes(alloc)?;
     match read_name(alloc, bytes.as_slice()) {
@@ -77,7 +82,7 @@ pub fn name_of(alloc: Global, string: &Quoted) -> Result<Option<Name>, AllocErro
 
 /// The expression that the string is.
 fn source_of(alloc: Global, string: &Quoted) -> Result<Option<Box<SourceExpr>>, AllocError>
-    ensures { IfOk result (λ found. AsksOne (IsExpressionOf string.now.pieces.items) (λ e. tree_of e.value) found) }
+    ensures { IfOk result (AsksOne (IsExpressionOf string.now.pieces.items) (λ e. tree_of e.value)) }
 {
     let bytes = string.bytes(alloc)?;
     match read_expr(alloc, bytes.as_slice()) {
@@ -92,7 +97,7 @@ fn source_of(alloc: Global, string: &Quoted) -> Result<Option<Box<SourceExpr>>, 
 
 /// The control value that the string is.
 pub fn control_of(alloc: Global, string: &Quoted) -> Result<Option<Box<SourceExpr>>, AllocError>
-    ensures { IfOk result (λ found. AsksOne (IsControlOf string.now.pieces.items) (λ e. tree_of e.value) found) }
+    ensures { IfOk result (AsksOne (IsControlOf string.now.pieces.items) (λ e. tree_of e.value)) }
 {
     let found = source_of(alloc, string)?;
     expressions_are_one();
@@ -109,7 +114,7 @@ pub fn control_of(alloc: Global, string: &Quoted) -> Result<Option<Box<SourceExp
 
 /// The condition that the string is.
 pub fn condition_of(alloc: Global, string: &Quoted) -> Result<Option<Box<SourceExpr>>, AllocError>
-    ensures { IfOk result (λ found. AsksOne (IsConditionOf string.now.pieces.items) (λ e. tree_of e.value) found) }
+    ensures { IfOk result (AsksOne (IsConditionOf string.now.pieces.items) (λ e. tree_of e.value)) }
 {
     let found = source_of(alloc, string)?;
     expressions_are_one();
@@ -117,6 +122,77 @@ pub fn condition_of(alloc: Global, string: &Quoted) -> Result<Option<Box<SourceE
         Some(e) => {
             if is_condition_form(&e) {
                 return Ok(Some(e));
+            }
+            Ok(None)
+        }
+        None => Ok(None),
+    }
+}
+
+/// The control value or the condition that the string is.
+pub fn either_of(alloc: Global, string: &Quoted) -> Result<Option<Box<SourceExpr>>, AllocError>
+    ensures { IfOk result (AsksOne (IsEitherOf string.now.pieces.items) (λ e. tree_of e.value)) }
+{
+    let found = source_of(alloc, string)?;
+    expressions_are_one();
+    match found {
+        Some(e) => {
+            if is_control_form(&e) || is_condition_form(&e) {
+                return Ok(Some(e));
+            }
+            Ok(None)
+        }
+        None => Ok(None),
+    }
+}
+
+/// Whether the coordinate is of control values.
+fn is_coordinate_form(c: &SourceCoord) -> bool
+    ensures { result ≡ is_coordinate_form (plain_coordinate c.now) }
+{
+    match c {
+        SourceCoord::Point(e) => is_control_form(e),
+        SourceCoord::Span(low, high) => is_control_form(low) && is_control_form(high),
+    }
+}
+
+/// Whether all coordinates are of control values.
+fn are_coordinate_forms(coords: &[SourceCoord]) -> bool
+    ensures { result ≡ list_all is_coordinate_form (map plain_coordinate coords.now) }
+{
+    for c in coords {
+        if !is_coordinate_form(c) {
+            return false;
+        }
+    }
+    true
+}
+
+/// What the string is as a window, of any expressions.
+fn source_window_of(alloc: Global, string: &Quoted) -> Result<Option<Box<SourceWindow>>, AllocError>
+    ensures { IfOk result (AsksOne (IsAnyWindowOf string.now.pieces.items) (λ w. plain_window w.value)) }
+{
+    let bytes = string.bytes(alloc)?;
+    match read_window(alloc, bytes.as_slice()) {
+        Ok(found) => Ok(Some(Box::new(alloc, found)?)),
+        Err(e) => {
+            refused(&e)?;
+            windows_are_one();
+            Ok(None)
+        }
+    }
+}
+
+/// The window that the string is.
+pub fn window_of(alloc: Global, string: &Quoted) -> Result<Option<Box<SourceWindow>>, AllocError>
+    ensures { IfOk result (AsksOne (IsWindowOf string.now.pieces.items) (λ w. plain_window w.value)) }
+{
+    let found = source_window_of(alloc, string)?;
+    windows_are_one();
+    match found {
+        Some(w) => {
+            if are_coordinate_forms(w.coords.as_slice()) {
+                return Ok(Some(w));
             }
             Ok(None)
         }

@@ -4,6 +4,11 @@ pub mod Proposed
 pub mod LoopRules
 pub mod OrderRules
 pub mod ScopeRules
+pub mod BufferRules
+pub mod StageRule
+pub mod CallRules
+pub mod SimplifyRules
+pub mod FieldRules
 pub mod Rules
 pub mod Runs
 pub mod Schedules

@@ -1,7 +1,7 @@
 pub mod Open
 pub mod Quiet
 pub mod Growing
-pub mod Derived
 pub mod Chain
+pub mod Derived
 pub mod Runs
 pub mod Behind

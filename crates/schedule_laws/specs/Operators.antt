@@ -1,5 +1,13 @@
+pub mod Places
+pub mod Arguments
+pub mod Calls
 pub mod Operators
+pub mod Rules
+pub mod Laws
 pub mod Instance
 pub mod LoopInstance
 pub mod OrderInstance
 pub mod ScopeInstance
+pub mod BufferInstance
+pub mod StageInstance
+pub mod CallInstance

@@ -22,8 +22,8 @@ use Rattle.cursor_forward.specs.declared.proposal.StepError.TheVariants as step
 use Rattle.step_rules.specs.Rule.{Tried}
 use Rattle.step_driver.specs.Outcomes.{RefusedBy}
 use Rattle.schedule_run.specs.Planned as plans
-use Rattle.schedule_run.specs.Planned.{Made, Not, then_make, as_found, as_tried, planned_by, planned}
-use Rattle.schedule_run.specs.Planned.{planned_on, planned_of, stepped, counted, listed, owed_with}
+use Rattle.schedule_run.specs.Planned.{Not, as_tried}
+use Rattle.schedule_run.specs.Planned.{counted, listed, owed_with}
 use Rattle.schedule_run.specs.PlainWhy.{Says, why_of_step, why_of_list, why_of_show}
 
 -- ---- a step that is refused

@@ -1,23 +1,23 @@
 -- What calls of operators plan, one question after the other.
 use Rattle.std.proofs.Common.{◌≡◌, ℕ, List, [], ◌∷◌, refl, sym, ap, ◌∙◌, subst, Bool, true, false}
-use Rattle.std.specs.Prelude.{if◌then◌else◌, Option, Some, None}
+use Rattle.std.specs.Prelude.{◌&&◌, if◌then◌else◌, Option, Some, None}
+use Rattle.std.specs.Option.{is_some}
 use Rattle.exo_tree.specs.Tree.{ConfigField, Procedure}
-use Rattle.exo_tree.specs.Places.{Path}
-use Rattle.cursor_forward.specs.Cursors.{Cursor, Node, Range, Gap}
+use Rattle.cursor_forward.specs.Cursors.{Cursor}
 use Rattle.cursor_forward.specs.Proposals.{Plan}
-use Rattle.step_rules.specs.Rule.{Target, Piece, Rule}
-use Rattle.step_rules.specs.Shapes.{tried}
-use Rattle.step_rules.specs.Answer.{proposed}
+use Rattle.step_rules.specs.Rule.{Tried, Target, Rule}
+use Rattle.step_rules.specs.Rule as step
+use Rattle.step_rules.specs.Answer.{then_try, proposed}
 use Rattle.schedule_calls.specs.Requests.{Asked}
 use Rattle.schedule_laws.specs.Versions.Versions.{Versions}
 use Rattle.schedule_laws.specs.Versions.Places.{Sought, Got, Lost, then_seek, sought}
-use Rattle.schedule_laws.specs.Versions.Lines.{Why, UnknownName, target, Call}
-use Rattle.schedule_laws.specs.Operators.Operators.{at_statement, at_block, at_gap, GapIn}
-use Rattle.schedule_laws.specs.Operators.Operators.{gap_beside, ruled_in}
+use Rattle.schedule_laws.specs.Versions.Lines.{Why, UnknownName, target, Ruled, Call, all_sought}
+use Rattle.schedule_laws.specs.Operators.Places.{statement_in}
+use Rattle.schedule_laws.specs.Operators.Arguments.{number_or}
+use Rattle.schedule_laws.specs.Operators.Calls.{ruled_at, place_call, statement_call, numbered_call}
 use Rattle.schedule_run.specs.Planned as plans
 use Rattle.schedule_run.specs.Planned.{Made, Not, then_make, as_found, as_tried, planned_by, planned}
-use Rattle.schedule_run.specs.Planned.{statement_in, block_in, gap_in, statement_at, block_at, gap_at}
-use Rattle.schedule_run.specs.Planned.{if_known}
+use Rattle.schedule_run.specs.Planned.{place_at, if_known}
 use Rattle.schedule_run.specs.PlainWhy.{Says}
 use Rattle.schedule_run.specs.declared.why.Why as memory
 use Rattle.schedule_run.proofs.Plans.{says, not_got, got_same, got_not, not_same}
@@ -38,167 +38,117 @@ pub known_true : (b : Bool) → if_known b ≡ plans.Got tt → b ≡ true
 known_true true h = refl
 known_true false h = absurd (got_not h)
 
--- ---- what calls plan
+-- two questions, one after the other
 
-module _ (v : Versions) (k : ℕ) (p : Procedure) where
-  abbrev pub made_by : Rule → Path → Made Plan
-  made_by r path = as_tried (proposed r (target v k p) path)
+pub both_known : (a b : Bool) → if_known a ≡ plans.Got tt → if_known b ≡ plans.Got tt
+    → if_known (a && b) ≡ plans.Got tt
+both_known true b h k = k
+both_known false b h k = h
+
+pub first_unknown : (a b : Bool) (e : memory.Why) → Says (λ w. if_known a ≡ Not w) e
+    → Says (λ w. if_known (a && b) ≡ Not w) e
+first_unknown true b e h =
+    says (λ w. if_known true ≡ Not w) (λ w. if_known b ≡ Not w) (λ w i. absurd (not_got i)) e h
+first_unknown false b e h = h
+
+pub second_unknown : (a b : Bool) → if_known a ≡ plans.Got tt → (e : memory.Why)
+    → Says (λ w. if_known b ≡ Not w) e → Says (λ w. if_known (a && b) ≡ Not w) e
+second_unknown true b h e k = k
+second_unknown false b h e k = absurd (got_not h)
+
+-- ---- what a call plans at a place, one question after the other
+
+module _ {T : Type 0} (v : Versions) (k : ℕ) (p : Procedure) (named : Versions → Bool) (at : Asked)
+    (stands : Cursor → Tried T) (rule : Versions → Target → T → Ruled) where
+  abbrev pub asked : Call
+  asked = place_call named at stands rule
+
+  -- by a rule where it is ruled
+  abbrev pub made_by : Target → T → Made Plan
+  made_by t x = as_tried (proposed (rule v t x).rule t (rule v t x).at)
+
+  abbrev made_there : T → Made Plan
+  made_there = made_by (target v k p)
+
+  by_place : (place : Tried T)
+      → then_make (as_tried (then_try place (λ x. step.Got (rule v (target v k p) x))))
+      (λ r. as_tried (proposed r.rule (target v k p) r.at))
+      ≡ then_make (as_tried place) made_there
+  by_place (step.Got x) = refl
+  by_place (step.Not cause) = refl
+
+  by_cursor : (s : Sought Cursor)
+      → then_make (as_found (then_seek s (λ c. Got (c ∷ [])))) (planned_by v k p asked)
+      ≡ then_make (then_make (as_found s) (λ c. as_tried (stands c))) made_there
+  by_cursor (Lost m) = refl
+  by_cursor (Got c) = by_place (stands c)
 
   named_is : (b : Bool) (made all : Made Plan) → made ≡ all
       → (if b then made else Not UnknownName) ≡ then_make (if_known b) (λ x. all)
   named_is true made all h = h
   named_is false made all h = refl
 
-  -- a rule where it is asked for, behind a question on the fields that are there
-  module _ (t : Target) (same : t ≡ target v k p) (test : List ConfigField → Bool) (at : Asked) where
-    unknown : {T : Type 0} (place : Made T) (made : T → Made Plan) (all : Made Plan)
-        → all ≡ then_make (if_known (test v.unit.fields)) (λ x. then_make place made) → (e : memory.Why)
-        → Says (λ w. if_known (test t.unit.fields) ≡ Not w) e → Says (λ w. all ≡ Not w) e
-    unknown place made all is e h =
-        says (λ w. if_known (test t.unit.fields) ≡ Not w) (λ w. all ≡ Not w)
-        (λ w i. is ∙ then_not (if_known (test v.unit.fields)) (λ x. then_make place made) w
-        (subst (λ (t : Target). if_known (test t.unit.fields) ≡ Not w) same i)) e h
+  asked_is : planned v k p asked
+      ≡ then_make (if_known (named v)) (λ x. then_make (place_at v k at stands) made_there)
+  asked_is = named_is (named v) _ _ (by_cursor (sought v k at))
 
-    known : if_known (test t.unit.fields) ≡ plans.Got tt → if_known (test v.unit.fields) ≡ plans.Got tt
-    known h = subst (λ (t : Target). if_known (test t.unit.fields) ≡ plans.Got tt) same h
+  pub asked_unknown : (e : memory.Why) → Says (λ w. if_known (named v) ≡ Not w) e
+      → Says (λ w. planned v k p asked ≡ Not w) e
+  asked_unknown e h =
+      says (λ w. if_known (named v) ≡ Not w) (λ w. planned v k p asked ≡ Not w)
+      (λ w i.
+      asked_is ∙ then_not (if_known (named v)) (λ x. then_make (place_at v k at stands) made_there) w i) e h
 
-    lost : {T : Type 0} (place : Made T) (made : T → Made Plan) (all : Made Plan)
-        → all ≡ then_make (if_known (test v.unit.fields)) (λ x. then_make place made)
-        → if_known (test t.unit.fields) ≡ plans.Got tt → (e : memory.Why)
-        → Says (λ w. place ≡ Not w) e → Says (λ w. all ≡ Not w) e
-    lost place made all is there e h =
-        says (λ w. place ≡ Not w) (λ w. all ≡ Not w)
-        (λ w i. is ∙ then_got (if_known (test v.unit.fields)) (λ x. then_make place made) tt (known there)
-        ∙ then_not place made w i) e h
+  known_then : if_known (named v) ≡ plans.Got tt
+      → planned v k p asked ≡ then_make (place_at v k at stands) made_there
+  known_then known =
+      asked_is
+      ∙ then_got (if_known (named v)) (λ x. then_make (place_at v k at stands) made_there) tt known
 
-    placed : {T : Type 0} (place : Made T) (made : T → Made Plan) (all : Made Plan)
-        → all ≡ then_make (if_known (test v.unit.fields)) (λ x. then_make place made)
-        → if_known (test t.unit.fields) ≡ plans.Got tt → (x : T) → place ≡ plans.Got x → all ≡ made x
-    placed place made all is there x h =
-        is ∙ then_got (if_known (test v.unit.fields)) (λ x. then_make place made) tt (known there)
-        ∙ then_got place made x h
+  pub asked_lost : if_known (named v) ≡ plans.Got tt → (e : memory.Why)
+      → Says (λ w. place_at v k at stands ≡ Not w) e → Says (λ w. planned v k p asked ≡ Not w) e
+  asked_lost known e h =
+      says (λ w. place_at v k at stands ≡ Not w) (λ w. planned v k p asked ≡ Not w)
+      (λ w i. known_then known ∙ then_not (place_at v k at stands) made_there w i) e h
 
-    -- ---- at a statement
+  -- in a target that is the version of that number
+  pub asked_there : (t : Target) → t ≡ target v k p → if_known (named v) ≡ plans.Got tt → (x : T)
+      → place_at v k at stands ≡ plans.Got x → planned v k p asked ≡ made_by t x
+  asked_there t same known x h =
+      known_then known ∙ then_got (place_at v k at stands) made_there x h
+      ∙ ap (λ (t : Target). made_by t x) (sym same)
 
-    module _ (r : Target → Path → Rule) where
-      abbrev statement_asked : Call
-      statement_asked = record {
-        named = λ v. test v.unit.fields;
-        cursors = at ∷ [];
-        rule = λ t cs. at_statement (r t) cs;
-      }
+-- a test of the fields of a target is one of those of the versions
+pub known_in : (v : Versions) (k : ℕ) (p : Procedure) (t : Target) → t ≡ target v k p
+    → (test : List ConfigField → Bool) → if_known (test t.unit.fields) ≡ plans.Got tt
+    → if_known (test v.unit.fields) ≡ plans.Got tt
+known_in v k p t same test h =
+    subst (λ (t : Target). if_known (test t.unit.fields) ≡ plans.Got tt) same h
 
-      abbrev made_there : Path → Made Plan
-      made_there path = made_by (r (target v k p) path) path
+pub unknown_in : (v : Versions) (k : ℕ) (p : Procedure) (t : Target) → t ≡ target v k p
+    → (test : List ConfigField → Bool) (e : memory.Why)
+    → Says (λ w. if_known (test t.unit.fields) ≡ Not w) e
+    → Says (λ w. if_known (test v.unit.fields) ≡ Not w) e
+unknown_in v k p t same test e h =
+    subst (λ (t : Target). Says (λ w. if_known (test t.unit.fields) ≡ Not w) e) same h
 
-      by_statement : (s : Sought Cursor)
-          → then_make (as_found (then_seek s (λ c. Got (c ∷ [])))) (planned_by v k p statement_asked)
-          ≡ then_make (then_make (as_found s) statement_in) made_there
-      by_statement (Lost m) = refl
-      by_statement (Got (Node path)) = refl
-      by_statement (Got (Range path count)) = refl
-      by_statement (Got (Gap path side)) = refl
+-- ---- by the number of what is named
 
-      statement_is : planned v k p statement_asked
-          ≡ then_make (if_known (test v.unit.fields)) (λ x. then_make (statement_at v k at) made_there)
-      statement_is = named_is (test v.unit.fields) _ _ (by_statement (sought v k at))
+module _ (v : Versions) (k : ℕ) (p : Procedure) (number : Versions → Option ℕ) (at : Asked)
+    (r : ℕ → Rule) where
+  abbrev ruled : Option ℕ → List Cursor → Tried Ruled
+  ruled o cs = ruled_at statement_in (λ path. record { rule = r (number_or o); at = path }) cs
 
-      pub statement_unknown : (e : memory.Why) → Says (λ w. if_known (test t.unit.fields) ≡ Not w) e
-          → Says (λ w. planned v k p statement_asked ≡ Not w) e
-      statement_unknown = unknown (statement_at v k at) made_there _ statement_is
+  abbrev by_number : Option ℕ → Made Plan
+  by_number o =
+      if is_some o
+      then then_make (as_found (all_sought v k (at ∷ []))) (λ cs.
+      then_make (as_tried (ruled o cs)) (λ r. as_tried (proposed r.rule (target v k p) r.at)))
+      else Not UnknownName
 
-      pub statement_lost : if_known (test t.unit.fields) ≡ plans.Got tt → (e : memory.Why)
-          → Says (λ w. statement_at v k at ≡ Not w) e
-          → Says (λ w. planned v k p statement_asked ≡ Not w) e
-      statement_lost = lost (statement_at v k at) made_there _ statement_is
+  pub numbered_there : (n : ℕ) → number v ≡ Some n
+      → planned v k p (numbered_call number at r) ≡ planned v k p (statement_call at (r n))
+  numbered_there n h = ap by_number h
 
-      pub statement_there : if_known (test t.unit.fields) ≡ plans.Got tt → (path : Path)
-          → statement_at v k at ≡ plans.Got path
-          → planned v k p statement_asked ≡ as_tried (proposed (r t path) t path)
-      statement_there there path h =
-          placed (statement_at v k at) made_there _ statement_is there path h
-          ∙ ap (λ (t : Target). as_tried (proposed (r t path) t path)) (sym same)
-
-    -- ---- at a statement or a block
-
-    module _ (r : Target → Path → ℕ → Rule) where
-      abbrev block_asked : Call
-      block_asked = record {
-        named = λ v. test v.unit.fields;
-        cursors = at ∷ [];
-        rule = λ t cs. at_block (r t) cs;
-      }
-
-      abbrev made_of : Piece → Made Plan
-      made_of piece = made_by (r (target v k p) piece.path piece.count) piece.path
-
-      by_block : (s : Sought Cursor)
-          → then_make (as_found (then_seek s (λ c. Got (c ∷ [])))) (planned_by v k p block_asked)
-          ≡ then_make (then_make (as_found s) block_in) made_of
-      by_block (Lost m) = refl
-      by_block (Got (Node path)) = refl
-      by_block (Got (Range path count)) = refl
-      by_block (Got (Gap path side)) = refl
-
-      block_is : planned v k p block_asked
-          ≡ then_make (if_known (test v.unit.fields)) (λ x. then_make (block_at v k at) made_of)
-      block_is = named_is (test v.unit.fields) _ _ (by_block (sought v k at))
-
-      pub block_unknown : (e : memory.Why) → Says (λ w. if_known (test t.unit.fields) ≡ Not w) e
-          → Says (λ w. planned v k p block_asked ≡ Not w) e
-      block_unknown = unknown (block_at v k at) made_of _ block_is
-
-      pub block_lost : if_known (test t.unit.fields) ≡ plans.Got tt → (e : memory.Why)
-          → Says (λ w. block_at v k at ≡ Not w) e → Says (λ w. planned v k p block_asked ≡ Not w) e
-      block_lost = lost (block_at v k at) made_of _ block_is
-
-      pub block_there : if_known (test t.unit.fields) ≡ plans.Got tt → (piece : Piece)
-          → block_at v k at ≡ plans.Got piece
-          → planned v k p block_asked
-          ≡ as_tried (proposed (r t piece.path piece.count) t piece.path)
-      block_there there piece h =
-          placed (block_at v k at) made_of _ block_is there piece h
-          ∙ ap (λ (t : Target). as_tried (proposed (r t piece.path piece.count) t piece.path)) (sym same)
-
-    -- ---- at a gap
-
-    module _ (r : ℕ → Rule) where
-      abbrev gap_asked : Call
-      gap_asked = record {
-        named = λ v. test v.unit.fields;
-        cursors = at ∷ [];
-        rule = λ t cs. at_gap r cs;
-      }
-
-      abbrev made_in : GapIn → Made Plan
-      made_in g = made_by (r g.before) g.around
-
-      in_block : (found : Option GapIn)
-          → then_make (as_tried (tried found (ruled_in r)))
-          (λ r. as_tried (proposed r.rule (target v k p) r.at))
-          ≡ then_make (as_tried (tried found (λ g. g))) made_in
-      in_block None = refl
-      in_block (Some g) = refl
-
-      by_gap : (s : Sought Cursor)
-          → then_make (as_found (then_seek s (λ c. Got (c ∷ [])))) (planned_by v k p gap_asked)
-          ≡ then_make (then_make (as_found s) gap_in) made_in
-      by_gap (Lost m) = refl
-      by_gap (Got (Node path)) = refl
-      by_gap (Got (Range path count)) = refl
-      by_gap (Got (Gap path side)) = in_block (gap_beside path side)
-
-      gap_is : planned v k p gap_asked
-          ≡ then_make (if_known (test v.unit.fields)) (λ x. then_make (gap_at v k at) made_in)
-      gap_is = named_is (test v.unit.fields) _ _ (by_gap (sought v k at))
-
-      pub gap_lost : if_known (test t.unit.fields) ≡ plans.Got tt → (e : memory.Why)
-          → Says (λ w. gap_at v k at ≡ Not w) e → Says (λ w. planned v k p gap_asked ≡ Not w) e
-      gap_lost = lost (gap_at v k at) made_in _ gap_is
-
-      pub gap_there : if_known (test t.unit.fields) ≡ plans.Got tt → (g : GapIn)
-          → gap_at v k at ≡ plans.Got g
-          → planned v k p gap_asked ≡ as_tried (proposed (r g.before) t g.around)
-      gap_there there g h =
-          placed (gap_at v k at) made_in _ gap_is there g h
-          ∙ ap (λ (t : Target). as_tried (proposed (r g.before) t g.around)) (sym same)
+  pub numbered_lost : number v ≡ None → planned v k p (numbered_call number at r) ≡ Not UnknownName
+  numbered_lost h = ap by_number h

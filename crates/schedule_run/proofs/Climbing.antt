@@ -1,14 +1,13 @@
 -- From a version to those of which it was made.
-use Rattle.std.proofs.Common.{◌≡◌, ◌==◌, ℕ, zero, suc, Bool, true, false, ◌||◌, List, [], ◌∷◌}
+use Rattle.std.proofs.Common.{◌≡◌, ◌==◌, ℕ, zero, suc, Bool, true, false, List, [], ◌∷◌}
 use Rattle.std.proofs.Common.{◌++◌, Option, Some, None, refl, sym, ap, ◌∙◌, append_assoc}
 use Rattle.std.proofs.Common.{map, ◌<◌, take, get_or, length, arith, eqb-true}
-use Rattle.std.specs.Prelude.{if◌then◌else◌, option_map, option_and_then, slice_get}
+use Rattle.std.specs.Prelude.{if◌then◌else◌, option_map, option_and_then}
 use Rattle.std.proofs.lemmas.List.{map-append}
 use Rattle.exo_tree.specs.declared.number.ProcId.{ProcId}
-use Rattle.config_laws.specs.Differing as config
-use Rattle.config_laws.specs.Differing.{from_parent, parent_in, descends}
+use Rattle.config_laws.specs.Differing.{from_parent}
 use Rattle.cursor_forward.specs.Cursors.{Cursor}
-use Rattle.schedule_laws.specs.Versions.Versions.{Origin, Versions, configured}
+use Rattle.schedule_laws.specs.Versions.Versions.{Versions}
 use Rattle.schedule_laws.specs.Versions.Places.{parent_at, stepped, forwarded, Place, brought, or_lost, CursorGone}
 use Rattle.schedule_run.specs.Roots.{root_in}
 use Rattle.schedule_run.specs.Ways.{way_to, along}
@@ -109,41 +108,6 @@ module _ (v : Versions) where
       by true o up = refl
       by false None up = refl
       by false (Some j) up = longer (way_to v n from j) (forwarded v n from j c) (up j)
-
--- ---- what a version was made of
-
-module _ (v : Versions) (from : ℕ) where
-  abbrev os : List config.Origin
-  os = map configured v.origins
-
-  pub descends_up : (m n k j : ℕ) → m ≡ suc n → (k == from) ≡ false → parent_in os k ≡ Some j
-      → descends [] os from m k ≡ descends [] os from n j
-  descends_up m n k j e t h =
-      ap (λ m. descends [] os from m k) e
-      ∙ ap (λ b. b || from_parent false (parent_in os k) (descends [] os from n)) t
-      ∙ ap (λ o. from_parent false o (descends [] os from n)) h
-
-  pub descends_lost : (m n k : ℕ) → m ≡ suc n → (k == from) ≡ false → parent_in os k ≡ None
-      → descends [] os from m k ≡ false
-  descends_lost m n k e t h =
-      ap (λ m. descends [] os from m k) e
-      ∙ ap (λ b. b || from_parent false (parent_in os k) (descends [] os from n)) t
-      ∙ ap (λ o. from_parent false o (descends [] os from n)) h
-
-  pub descends_here : (m k : ℕ) → (k == from) ≡ true → descends [] os from m k ≡ true
-  descends_here zero k t = t
-  descends_here (suc n) k t =
-      ap (λ b. b || from_parent false (parent_in os k) (descends [] os from n)) t
-
-parents : (all : List Origin) (k : ℕ)
-    → parent_in (map configured all) k ≡ option_and_then (λ (o : Origin). o.parent) (slice_get all k)
-parents [] zero = refl
-parents [] (suc k) = refl
-parents (o ∷ all) zero = refl
-parents (o ∷ all) (suc k) = parents all k
-
-pub parent_is : (v : Versions) (k : ℕ) → parent_in (map configured v.origins) k ≡ parent_at v k
-parent_is v k = parents v.origins k
 
 -- where a cursor is brought, by the way
 pub brought_by : (v : Versions) (k : ℕ) (p : Place) (o : Option (List ℕ)) → o ≡ way_to v k p.version k

@@ -1,21 +1,27 @@
--- The gap beside a statement, by the steps of its path.
+-- A statement in its block and the gap beside it, by the steps of its path.
 use Rattle.std.proofs.Common.{◌≡◌, ℕ, ◌<◌, ◌≤◌, Bool, true, false, List, [], ◌∷◌, ◌++◌, length, map, refl, ap, sym, ◌∙◌}
 use Rattle.std.proofs.Common.{Some, None, arith}
 use Rattle.std.specs.Prelude.{◌^◌, nat_lt, if◌then◌else◌, option_map, option_and_then}
 use Rattle.cursor_forward.specs.Shifts.{word}
 use Rattle.std.proofs.lemmas.List.{nil_from_length}
-use Rattle.exo_tree.specs.Places.{Path}
-use Rattle.exo_tree.specs.PlainPlace.{step_taken}
+use Rattle.exo_tree.specs.Places.{Branch, Path}
+use Rattle.exo_tree.specs.PlainPlace.{step_taken, branch_taken}
 use Rattle.exo_tree.specs.declared.place.Step.{Step}
 use Rattle.cursor_forward.specs.Cursors.{Side, owner}
-use Rattle.schedule_laws.specs.Operators.Operators.{before_gap, gap_under, gap_beside}
-use Rattle.schedule_laws.specs.Operators.Operators.{number_in_block}
+use Rattle.schedule_laws.specs.Operators.Places.{before_gap, gap_under, gap_beside}
+use Rattle.schedule_laws.specs.Operators.Places.{number_in_block, branch_around, Within, within_of}
 
 number_at_end : (up : List Step) (last : Step)
     → number_in_block (map step_taken (up ++ last ∷ [])) ≡ last.index
 number_at_end [] last = refl
 number_at_end (s ∷ []) last = refl
 number_at_end (s ∷ t ∷ up) last = number_at_end (t ∷ up) last
+
+branch_at_end : (up : List Step) (last : Step)
+    → branch_around (map step_taken (up ++ last ∷ [])) ≡ branch_taken last.branch
+branch_at_end [] last = refl
+branch_at_end (s ∷ []) last = refl
+branch_at_end (s ∷ t ∷ up) last = branch_at_end (t ∷ up) last
 
 owner_more : (s : Step) (rest : List Step) (o : Path)
     → owner (map step_taken rest) ≡ Some o → owner (map step_taken (s ∷ rest)) ≡ Some (step_taken s ∷ o)
@@ -70,6 +76,45 @@ module _ (path : Path) (to : List Step) (side : Side) (is : map step_taken to �
 
     pub gap_passed : 0 < length up → before_gap last.index side ≡ None → gap_beside path side ≡ None
     gap_passed some is = gap_inside some ∙ ap (λ o. gap_under o (map step_taken up)) is
+
+-- ---- in its block
+
+abbrev inside : Path → Branch → ℕ → Within
+inside around branch index = record { around = around; branch = branch; index = index }
+
+module _ (path : Path) (to : List Step) (is : map step_taken to ≡ path) where
+  pub within_nowhere : length to ≡ 0 → within_of path ≡ None
+  within_nowhere none =
+      ap within_of (sym is) ∙ ap (λ l. within_of (map step_taken l)) (nil_from_length to none)
+
+  module _ (up : List Step) (last : Step) (parts : to ≡ up ++ last ∷ []) where
+    abbrev all : Path
+    all = map step_taken (up ++ last ∷ [])
+
+    abbrev around_all : Path
+    around_all = map step_taken up
+
+    within_parts : within_of path ≡ within_of all
+    within_parts = ap within_of (sym is) ∙ ap (λ l. within_of (map step_taken l)) parts
+
+    pub within_top : length up ≡ 0 → within_of path ≡ None
+    within_top none =
+        within_parts
+        ∙ ap (λ u. within_of (map step_taken (u ++ last ∷ []))) (nil_from_length up none)
+
+    pub within_found : 0 < length up → (around : Path) → around ≡ around_all
+        → Some (inside around (branch_taken last.branch) last.index) ≡ within_of path
+    within_found some around same =
+        ap (λ p. Some (inside p (branch_taken last.branch) last.index)) same
+        ∙ (sym (ap (λ b. Some (inside around_all b last.index)) (branch_at_end up last))
+        ∙ (sym (ap (λ n. Some (inside around_all (branch_around all) n)) (number_at_end up last))
+        ∙ (sym (ap (option_map (λ p. inside p (branch_around all) (number_in_block all))) (owned up some))
+        ∙ sym within_parts)))
+      where
+        owned : (u : List Step) → 0 < length u
+            → owner (map step_taken (u ++ last ∷ [])) ≡ Some (map step_taken u)
+        owned [] few = absurd (omega (arith, few))
+        owned (s ∷ u) few = owner_at_end s u last
 
 -- ---- how many statements are before it
 

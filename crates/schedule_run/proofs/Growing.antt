@@ -3,21 +3,22 @@ use Rattle.std.proofs.Common.{◌≡◌, ◌≤◌, ◌<◌, ◌+◌, ℕ, zero,
 use Rattle.std.proofs.Common.{◌++◌, map, length, Option, Some, None, refl, sym, ap, ◌∙◌, subst}
 use Rattle.std.proofs.Common.{arith, append_assoc, append-nil, ◌⊎◌, inl, inr}
 use Rattle.std.proofs.lemmas.List.{length_push}
-use Rattle.std.specs.Prelude.{slice_get, if◌then◌else◌, option_and_then, nat_lt}
+use Rattle.std.specs.Prelude.{slice_get, if◌then◌else◌, nat_lt}
 use Rattle.exo_tree.specs.Tree.{Procedure, Program}
+use Rattle.config_laws.specs.Differing.{Origin, parent_in}
 use Rattle.bounds_check.specs.Obligations.{Fault, list_fault}
 use Rattle.unit_check.specs.Checked as unit_check
 use Rattle.unit_check.specs.Checked.{first_open}
 use Rattle.cursor_patterns.specs.Patterns.{Pattern}
 use Rattle.cursor_forward.specs.Cursors.{Cursor}
 use Rattle.cursor_forward.specs.Proposals.{Plan}
-use Rattle.step_rules.specs.Rule.{Tried, Target}
+use Rattle.step_rules.specs.Rule.{Tried}
 use Rattle.step_rules.specs.Rule as rule
 use Rattle.step_rules.specs.Answer.{proposed}
 use Rattle.tree_laws.specs.Findings.Versions.{with_version}
 use Rattle.schedule_text.specs.Tree as tree
 use Rattle.schedule_calls.specs.Requests.{Move}
-use Rattle.schedule_laws.specs.Versions.Versions.{Origin, of_text, made_of, Versions, started}
+use Rattle.schedule_laws.specs.Versions.Versions.{of_text, made_of, Versions, started}
 use Rattle.schedule_laws.specs.Versions.Versions.{version_at, version_of, held, with_step}
 use Rattle.schedule_laws.specs.Versions.Places.{Sought, Got, Lost, Place, then_seek, moved_at, matched}
 use Rattle.schedule_laws.specs.Versions.Places.{parent_at}
@@ -76,7 +77,7 @@ module _ (v : Versions) where
   found_arrives : (name : List ℕ) (k : ℕ) (p : Procedure) (call : Call) (s : Sought (List Cursor))
       → Arrives (found_step v name k p call s)
   found_arrives name k p call (Lost why) = refused _
-  found_arrives name k p call (Got cs) = ruled_arrives name k p (call.rule (target v k p) cs)
+  found_arrives name k p call (Got cs) = ruled_arrives name k p (call.rule v (target v k p) cs)
 
   test_arrives : (b : Bool) (one : Progress) (why : Why) → Arrives one
       → Arrives (if b then one else Refused why)
@@ -115,7 +116,9 @@ module _ (v : Versions) where
 
   pub act_changes : (a : Act) → Arrives (performed v a)
   act_changes (Faulty why) = refused why
-  act_changes (Apply name of call) = called_arrives name call (version_of v of)
+  act_changes (Apply name of call) =
+      test_arrives (call.formed v) (called v name call (version_of v of)) BadArguments
+      (called_arrives name call (version_of v of))
   act_changes (Search name of pattern nth moves) =
       searched_arrives name pattern nth moves (version_of v of)
   act_changes (Moved name of moves) =
@@ -164,9 +167,9 @@ pub record IsGrown (unit : Program) (w : Versions) : Type 0 where
       → (j : ℕ) × (parent_at w k ≡ Some j)
 
 abbrev parent_of : Option Origin → Option ℕ
-parent_of o = option_and_then (λ (o : Origin). o.parent) o
+parent_of o = elim o as (λ o. Option ℕ) [ None ↦ None | Some o ↦ o.parent ]
 
-no_parent : (ps : List Procedure) (k : ℕ) → parent_of (slice_get (map (λ p. of_text) ps) k) ≡ None
+no_parent : (ps : List Procedure) (k : ℕ) → parent_in (map (λ p. of_text) ps) k ≡ None
 no_parent [] zero = refl
 no_parent [] (suc k) = refl
 no_parent (p ∷ ps) zero = refl

@@ -2,18 +2,18 @@
 use Rattle.std.proofs.Common.{◌≡◌, ◌==◌, ◌≤◌, ◌<◌, ◌+◌, ℕ, zero, suc, Bool, true, false, ◌||◌, List}
 use Rattle.std.proofs.Common.{[], ◌∷◌, map, length, Option, Some, None, refl, sym, ap, ◌∙◌, subst}
 use Rattle.std.proofs.Common.{arith, add-one, eq-eqb, ◌⊎◌, inl, inr}
-use Rattle.std.specs.Prelude.{slice_get, option_and_then, nat_lt}
+use Rattle.std.specs.Prelude.{slice_get, nat_lt}
 use Rattle.exo_tree.specs.Tree.{Procedure, Program}
-use Rattle.config_laws.specs.Differing as config
-use Rattle.config_laws.specs.Differing.{parent_in, from_parent, descends, is_descendant}
+use Rattle.config_laws.specs.Differing.{Origin, parent_in, from_parent, descends}
 use Rattle.schedule_text.specs.Tree as tree
 use Rattle.schedule_calls.specs.Requests.{Request}
-use Rattle.schedule_laws.specs.Versions.Versions.{Origin, configured, Versions, started}
+use Rattle.schedule_laws.specs.Versions.Versions.{Versions, started}
 use Rattle.schedule_laws.specs.Versions.Places.{parent_at}
 use Rattle.schedule_laws.specs.Versions.Lines.{Act, Went, performed, Outcome, Done}
 use Rattle.schedule_laws.specs.Versions.Lines.{run_from, behind}
 use Rattle.schedule_laws.specs.Versions.Laws.{AreDerived, HasRoom, VersionsRefine, VersionsKeepHeads}
-use Rattle.schedule_laws.specs.Operators.Operators.{act_of, SchedulesDerive}
+use Rattle.schedule_laws.specs.Operators.Operators.{act_of}
+use Rattle.schedule_laws.specs.Operators.Laws.{SchedulesDerive}
 use Rattle.schedule_run.specs.Runs.{IsAct, asked, unknown, bad, LinesRun, ends, stops, goes}
 use Rattle.schedule_run.specs.Roots.{root_in}
 use Rattle.schedule_run.specs.Laws.{AreVersionsOf, SchedulesKeep}
@@ -52,13 +52,6 @@ requested _ _ _ _ w (goes k line more v u a end is h rest) e =
 
 -- ---- of which procedure of the text a version comes
 
-parents : (os : List Origin) (k : ℕ)
-    → parent_in (map configured os) k ≡ option_and_then (λ (o : Origin). o.parent) (slice_get os k)
-parents [] zero = refl
-parents [] (suc k) = refl
-parents (o ∷ os) zero = refl
-parents (o ∷ os) (suc k) = parents os k
-
 or_true : (b c : Bool) → c ≡ true → (b || c) ≡ true
 or_true true c h = refl
 or_true false c h = h
@@ -89,8 +82,8 @@ side k n = by (nat_lt k n) refl
     by false e = inr (grind arith)
 
 module _ (unit : Program) (w : Versions) (g : IsGrown unit w) (d : AreDerived w) where
-  abbrev os : List config.Origin
-  os = map configured w.origins
+  abbrev os : List Origin
+  os = w.origins
 
   record IsRoot (n k root : ℕ) : Type 0 where
     pub in_text : root < length unit.procedures
@@ -105,9 +98,6 @@ module _ (unit : Program) (w : Versions) (g : IsGrown unit w) (d : AreDerived w)
       there : (o : Option Procedure) → slice_get w.unit.procedures k ≡ o → j < k
       there (Some q) i = (d.made j k q e i).2.before
       there None i = absurd (not_there k h i)
-
-  parent_is : (k : ℕ) (o : Option ℕ) → parent_at w k ≡ o → parent_in os k ≡ o
-  parent_is k o e = parents w.origins k ∙ e
 
   -- a procedure of the text is its own root
   itself : (n k : ℕ) → k < length unit.procedures → IsRoot n k (root_in w n k)
@@ -156,7 +146,7 @@ module _ (unit : Program) (w : Versions) (g : IsGrown unit w) (d : AreDerived w)
             descends = or_true (k == root_in w n j)
                 (from_parent false (parent_in os k) (descends [] os (root_in w n j) n))
                 (ap (λ o. from_parent false o (descends [] os (root_in w n j) n))
-                (parent_is k (Some j) up.1) ∙ r.descends);
+                up.1 ∙ r.descends);
           })
 
   pub are_versions : AreVersionsOf unit w

@@ -14,3 +14,4 @@ pub mod Gaps
 pub mod Arms
 pub mod Going
 pub mod Lists
+pub mod FirstNamed

@@ -7,7 +7,7 @@ use Rattle.exo_tree.specs.Tree.{Procedure}
 use Rattle.schedule_run.specs.PlainVersions.{binding, held}
 use Rattle.schedule_run.specs.declared.session.Binding.{Binding}
 use Rattle.schedule_run.proofs.Lists.{map_taken}
-use Rattle.schedule_laws.specs.Versions.Versions.{Origin, of_text, Held, Version, held_after, names_from}
+use Rattle.schedule_laws.specs.Versions.Versions.{Held, Version, held_after, names_from}
 
 -- the last binding holds where it is of the name
 pub held_push : (found : Option Held) (xs : List (List ℕ × Held)) (b : List ℕ × Held)
@@ -39,15 +39,16 @@ names_more done p ns name n e f g =
     zero_plus : (n : ℕ) → n ≡ 0 + n
     zero_plus n = omega arith
 
-pub texts_more : (done : List Procedure) (p : Procedure) (os : List Origin) (o : Origin)
-    → os ≡ map (λ p. of_text) done → o ≡ of_text
-    → os ++ o ∷ [] ≡ map (λ p. of_text) (done ++ p ∷ [])
-texts_more done p os o e f = (λ i. e i ++ f i ∷ []) ∙ sym (pushed done)
+-- one more of the same
+pub same_more : {A : Type 0} (done : List Procedure) (p : Procedure) (each : A) (xs : List A) (x : A)
+    → xs ≡ map (λ p. each) done → x ≡ each → xs ++ x ∷ [] ≡ map (λ p. each) (done ++ p ∷ [])
+same_more done p each xs x e f = (λ i. e i ++ f i ∷ []) ∙ sym (pushed done)
   where
     pushed : (ps : List Procedure)
-        → map (λ (p : Procedure). of_text) (ps ++ p ∷ []) ≡ map (λ (p : Procedure). of_text) ps ++ of_text ∷ []
+        → map (λ (p : Procedure). each) (ps ++ p ∷ [])
+        ≡ map (λ (p : Procedure). each) ps ++ each ∷ []
     pushed [] = refl
-    pushed (q ∷ ps) = ap (λ l. of_text ∷ l) (pushed ps)
+    pushed (q ∷ ps) = ap (λ l. each ∷ l) (pushed ps)
 
 -- by whether the last of so many bindings is of the name
 pub held_at : (bs : List Binding) (k m : ℕ) (b : Binding) (name : List ℕ) (t : Bool) → m ≡ suc k

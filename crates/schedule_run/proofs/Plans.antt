@@ -78,7 +78,7 @@ module _ (v : Versions) (k : ℕ) (p : Procedure) (call : Call) (m : Plan) (law 
 
   by_cursors : (s : Sought (List Cursor)) → then_make (as_found s) (planned_by v k p call) ≡ plans.Got m
       → Stands
-  by_cursors (Got cs) h = by_rule (call.rule (target v k p) cs) h
+  by_cursors (Got cs) h = by_rule (call.rule v (target v k p) cs) h
   by_cursors (Lost why) h = absurd (got_not h)
 
   by_names : (b : Bool) (made : Made Plan) → (made ≡ plans.Got m → Stands)

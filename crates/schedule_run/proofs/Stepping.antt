@@ -12,17 +12,24 @@ use Rattle.step_rules.specs.Rule.{Tried}
 use Rattle.step_rules.specs.Rule as rule
 use Rattle.step_rules.specs.Answer.{proposed}
 use Rattle.tree_laws.specs.Findings.Versions.{with_version}
-use Rattle.schedule_laws.specs.Versions.Versions.{Versions, with_step}
+use Rattle.schedule_laws.specs.Versions.Versions.{Versions, version_at, version_of, with_step}
 use Rattle.schedule_laws.specs.Versions.Places.{Sought, Got, Lost}
 use Rattle.schedule_laws.specs.Versions.Lines.{Progress, Went, Refused, UnknownName, target, owed_for}
 use Rattle.schedule_laws.specs.Versions.Lines.{shown_step, checked_step, proposed_step, Ruled, Call}
-use Rattle.schedule_laws.specs.Versions.Lines.{all_sought, ruled_step, found_step, called_on}
+use Rattle.schedule_laws.specs.Versions.Lines.{all_sought, ruled_step, found_step, called_on, called}
+use Rattle.schedule_laws.specs.Versions.Lines.{BadArguments, Apply, performed}
 use Rattle.schedule_run.specs.Planned as plans
 use Rattle.schedule_run.specs.Planned.{Made, then_make, as_found, as_tried, planned_by, planned_on}
-use Rattle.schedule_run.specs.Planned.{stepped, counted, listed, owed_with}
+use Rattle.schedule_run.specs.Planned.{planned_of, stepped, counted, listed, owed_with}
 use Rattle.schedule_run.specs.PlainWhy.{Says}
 use Rattle.schedule_run.specs.declared.why.Why as memory
 use Rattle.schedule_run.proofs.Plans.{says}
+
+-- arguments of the right forms
+pub formed_is : (v : Versions) (name of : List ℕ) (call : Call) → call.formed v ≡ true
+    → performed v (Apply name of call) ≡ called v name call (version_of v of)
+formed_is v name of call h =
+    ap (λ (b : Bool). if b then called v name call (version_of v of) else Refused BadArguments) h
 
 module _ (v : Versions) (name : List ℕ) (k : ℕ) where
   -- ---- what is owed
@@ -56,7 +63,7 @@ module _ (v : Versions) (name : List ℕ) (k : ℕ) where
 
     found_is : (s : Sought (List Cursor)) → found_step v name k p call s ≡ stepped v name k
         (then_make (as_found s) (planned_by v k p call))
-    found_is (Got cs) = ruled_is (call.rule (target v k p) cs)
+    found_is (Got cs) = ruled_is (call.rule v (target v k p) cs)
     found_is (Lost why) = refl
 
     tested_is : (b : Bool) (one : Progress) (made : Made Plan) → one ≡ stepped v name k made
@@ -70,6 +77,12 @@ module _ (v : Versions) (name : List ℕ) (k : ℕ) where
   called_is call None = refl
   called_is call (Some p) =
       tested_is p call (call.named v) _ _ (found_is p call (all_sought v k call.cursors))
+
+  pub applied_is : (of : List ℕ) (call : Call) → call.formed v ≡ true → version_of v of ≡ Some k
+      → performed v (Apply name of call) ≡ stepped v name k (planned_of v call k)
+  applied_is of call formed there =
+      formed_is v name of call formed ∙ ap (called v name call) there
+      ∙ called_is call (version_at v k)
 
 -- ---- a step, by what is owed for it
 

@@ -1,5 +1,5 @@
 -- What holds of the runs of lines.
-use Rattle.std.specs.Prelude.{◌≡◌, ◌≤◌, ◌<◌, ◌++◌, ◌^◌, ℕ, List, length, map}
+use Rattle.std.specs.Prelude.{◌≡◌, ◌≤◌, ◌<◌, ◌++◌, ◌^◌, ℕ, List, length}
 use Rattle.std.specs.Prelude.{true, nat_lt, None, Some, slice_get}
 use Rattle.std.specs.List.{list_all}
 use Rattle.exo_tree.specs.Tree.{Procedure, Program}
@@ -10,7 +10,7 @@ use Rattle.meaning_laws.specs.Chain.{HasHead}
 use Rattle.unit_check.specs.Faults.{NothingFaults}
 use Rattle.config_laws.specs.Differing.{is_descendant, differing}
 use Rattle.schedule_text.specs.Tree as tree
-use Rattle.schedule_laws.specs.Versions.Versions.{Versions, started, configured}
+use Rattle.schedule_laws.specs.Versions.Versions.{Versions, started}
 use Rattle.schedule_laws.specs.Versions.Places.{parent_at}
 use Rattle.schedule_laws.specs.Versions.Lines.{Act, Outcome, Done}
 use Rattle.schedule_laws.specs.Versions.Laws.{AreDerived, HasRoom}
@@ -48,11 +48,11 @@ pub record AreVersionsOf (unit : Program) (w : Versions) : Type 0 where
   pub from_root :
       (k : ℕ)
       → k < length w.unit.procedures
-      → is_descendant (map configured w.origins) k (root_of w k) ≡ true
+      → is_descendant w.origins k (root_of w k) ≡ true
 
 -- version k was made of version from, in any number of steps
 pub record IsVersionOf (w : Versions) (from k : ℕ) (p q : Procedure) : Type 0 where
-  pub descends : is_descendant (map configured w.origins) k from ≡ true
+  pub descends : is_descendant w.origins k from ≡ true
   pub old : slice_get w.unit.procedures from ≡ Some p
   pub new : slice_get w.unit.procedures k ≡ Some q
 
@@ -66,7 +66,7 @@ pub record AreKept (unit : Program) (w : Versions) : Type 0 where
       (from k : ℕ) (p q : Procedure)
       → IsVersionOf w from k p q
       → Refines (program_world w.unit) p q
-      (differing w.unit (map configured w.origins) k from)
+      (differing w.unit w.origins k from)
 
 abbrev pub SchedulesKeep : Type 0
 SchedulesKeep =

@@ -1,7 +1,6 @@
 pub mod Runs
 pub mod Roots
 pub mod Ways
-pub mod AtControl
 pub mod Planned
 pub mod PlainPlace
 pub mod PlainVersions
@@ -9,4 +8,3 @@ pub mod PlainWhy
 pub mod Running
 pub mod Outcomes
 pub mod Laws
-pub use Rattle.schedule_laws.specs.Operators.Operators

@@ -1,26 +1,33 @@
 -- What an operator makes of a version, before anything is shown.
-use Rattle.std.specs.Prelude.{◌++◌, ℕ, Bool, true, if◌then◌else◌, List, length}
+use Rattle.std.specs.Prelude.{◌++◌, ◌&&◌, ℕ, Bool, true, false, if◌then◌else◌, List, length}
 use Rattle.std.specs.Prelude.{Option, Some, None}
+use Rattle.std.specs.List.{list_all}
 use Rattle.exo_tree.specs.Tree.{Procedure, Program}
-use Rattle.exo_tree.specs.Places.{Path}
 use Rattle.affine_systems.specs.Outcomes.{Owed}
 use Rattle.bounds_check.specs.Obligations.{Fault, obligations_of, list_fault}
 use Rattle.unit_check.specs.Checked as unit_check
 use Rattle.unit_check.specs.Checked.{first_open}
-use Rattle.cursor_forward.specs.Causes.{WrongShape}
-use Rattle.cursor_forward.specs.Cursors.{Cursor, Node, Range, Gap}
+use Rattle.cursor_forward.specs.Cursors.{Cursor}
 use Rattle.cursor_forward.specs.Proposals.{Plan}
-use Rattle.step_rules.specs.Rule.{Tried, Piece}
+use Rattle.step_rules.specs.Rule.{Tried}
 use Rattle.step_rules.specs.Rule as rule
-use Rattle.step_rules.specs.Shapes.{tried}
 use Rattle.step_rules.specs.Answer.{proposed}
 use Rattle.tree_laws.specs.Findings.Versions.{with_version}
-use Rattle.rules_names.specs.Arguments.{is_control_form, is_condition_form}
-use Rattle.schedule_calls.specs.Requests.{Asked, Operation, DivideLoop, CutLoop, MultLoops}
-use Rattle.schedule_calls.specs.Requests.{ShiftLoop, ReorderLoops, Fission, Fuse, JoinLoops}
-use Rattle.schedule_calls.specs.Requests.{UnrollLoop, RemoveLoop, LiftScope, Specialize}
-use Rattle.schedule_calls.specs.Requests.{EliminateDeadCode, ReorderStmts, CommuteExpr, Rename}
-use Rattle.schedule_calls.specs.Requests.{DeletePass, Request}
+use Rattle.rules_names.specs.Arguments.{is_control_form, is_condition_form, is_coordinate_form}
+use Rattle.schedule_calls.specs.declared.operator.CursorOperator.{CursorOperator}
+use Rattle.schedule_calls.specs.declared.operator.CursorOperator.TheVariants as alone
+use Rattle.schedule_calls.specs.declared.operator.WordOperator.{WordOperator}
+use Rattle.schedule_calls.specs.declared.operator.WordOperator.TheVariants as word
+use Rattle.schedule_calls.specs.declared.operator.WholeOperator.{WholeOperator}
+use Rattle.schedule_calls.specs.declared.operator.WholeOperator.TheVariants as whole
+use Rattle.schedule_calls.specs.declared.operator.ChangeOperator.{ChangeOperator}
+use Rattle.schedule_calls.specs.declared.operator.ChangeOperator.TheVariants as change
+use Rattle.schedule_calls.specs.declared.operator.Operator.{Operator}
+use Rattle.schedule_calls.specs.declared.operator.Operator.TheVariants as operator
+use Rattle.schedule_calls.specs.Requests.{Asked, Change, Alone, WithControl, WithWord, MultLoops}
+use Rattle.schedule_calls.specs.Requests.{Specialize, CommuteExpr, BindExpr, ExpandDim, StageMem}
+use Rattle.schedule_calls.specs.Requests.{WriteConfig, BindConfig, DivideLoop, EliminateDeadCode}
+use Rattle.schedule_calls.specs.Requests.{Operation, At, Whole, Rename, Request}
 use Rattle.schedule_calls.specs.Requests as request
 use Rattle.schedule_laws.specs.Versions.Versions.{Versions, version_at}
 use Rattle.schedule_laws.specs.Versions.Places.{Sought, sought}
@@ -29,7 +36,6 @@ use Rattle.schedule_laws.specs.Versions.Lines.{Why, UnknownProc, UnknownName, No
 use Rattle.schedule_laws.specs.Versions.Lines.{NotShown}
 use Rattle.schedule_laws.specs.Versions.Lines.{Progress, Refused, checked_step, target, Call}
 use Rattle.schedule_laws.specs.Versions.Lines.{all_sought}
-use Rattle.schedule_laws.specs.Operators.Operators.{GapIn, gap_beside}
 
 -- something, or why a line is refused
 pub data Made (T : Type 0) : Type 0 where
@@ -51,7 +57,7 @@ as_tried (rule.Not cause) = Not (Step cause)
 module _ (v : Versions) (k : ℕ) (p : Procedure) where
   abbrev pub planned_by : Call → List Cursor → Made Plan
   planned_by call cs =
-      then_make (as_tried (call.rule (target v k p) cs)) (λ r.
+      then_make (as_tried (call.rule v (target v k p) cs)) (λ r.
       as_tried (proposed r.rule (target v k p) r.at))
 
   abbrev pub planned : Call → Made Plan
@@ -61,55 +67,77 @@ module _ (v : Versions) (k : ℕ) (p : Procedure) where
 
 -- ---- where an operator works
 
--- a statement is asked for
-abbrev pub statement_in : Cursor → Made Path
-statement_in (Node path) = Got path
-statement_in (Range path count) = Not (Step WrongShape)
-statement_in (Gap path side) = Not (Step WrongShape)
-
--- a statement or a block
-abbrev pub block_in : Cursor → Made Piece
-block_in (Node path) = Got (record { path = path; count = 1 })
-block_in (Range path count) = Got (record { path = path; count = count })
-block_in (Gap path side) = Not (Step WrongShape)
-
--- a gap in the block of a statement
-abbrev pub gap_in : Cursor → Made GapIn
-gap_in (Node path) = Not (Step WrongShape)
-gap_in (Range path count) = Not (Step WrongShape)
-gap_in (Gap path side) = as_tried (tried (gap_beside path side) (λ g. g))
-
-module _ (v : Versions) (k : ℕ) (at : Asked) where
-  abbrev pub statement_at : Made Path
-  statement_at = then_make (as_found (sought v k at)) statement_in
-
-  abbrev pub block_at : Made Piece
-  block_at = then_make (as_found (sought v k at)) block_in
-
-  abbrev pub gap_at : Made GapIn
-  gap_at = then_make (as_found (sought v k at)) gap_in
+-- what the cursor stands for that is asked
+abbrev pub place_at : {T : Type 0} → Versions → ℕ → Asked → (Cursor → Tried T) → Made T
+place_at v k at stands = then_make (as_found (sought v k at)) (λ c. as_tried (stands c))
 
 -- ---- expressions in lines
 
--- an expression has the form of its place, as in each line
+-- the operators that are built
+abbrev pub cursor_is_built : CursorOperator → Bool
+cursor_is_built alone.ReorderLoops = true
+cursor_is_built alone.JoinLoops = true
+cursor_is_built alone.Fission = true
+cursor_is_built alone.Fuse = true
+cursor_is_built alone.UnrollLoop = true
+cursor_is_built alone.RemoveLoop = true
+cursor_is_built alone.LiftScope = true
+cursor_is_built alone.ReorderStmts = true
+cursor_is_built alone.LiftAlloc = true
+cursor_is_built alone.DeleteBuffer = true
+cursor_is_built alone.Inline = true
+cursor_is_built alone.InlineWindow = true
+cursor_is_built alone.DeleteConfig = true
+
+abbrev pub word_is_built : WordOperator → Bool
+word_is_built word.SetMemory = true
+word_is_built word.Replace = false
+word_is_built word.CallEqv = true
+
+abbrev pub whole_is_built : WholeOperator → Bool
+whole_is_built whole.DeletePass = true
+whole_is_built whole.Simplify = true
+
+abbrev pub change_is_built : ChangeOperator → Bool
+change_is_built (change.Alone o) = cursor_is_built o
+change_is_built (change.WithControl o) = true
+change_is_built (change.WithWord o) = word_is_built o
+change_is_built change.MultLoops = true
+change_is_built change.Specialize = true
+change_is_built change.CommuteExpr = true
+change_is_built change.BindExpr = true
+change_is_built change.ExpandDim = true
+change_is_built change.StageMem = true
+change_is_built change.WriteConfig = true
+change_is_built change.BindConfig = true
+change_is_built change.DivideLoop = true
+change_is_built change.EliminateDeadCode = true
+
+abbrev pub operator_is_built : Operator → Bool
+operator_is_built (operator.At o) = change_is_built o
+operator_is_built (operator.Whole o) = whole_is_built o
+operator_is_built operator.Rename = true
+
+-- the operator is built, and expressions have the forms of their places, as in each line
+abbrev pub change_has_form : Change → Bool
+change_has_form (Alone o) = cursor_is_built o
+change_has_form (WithControl o e) = is_control_form e
+change_has_form (WithWord o word) = word_is_built o
+change_has_form (MultLoops name) = true
+change_has_form (Specialize c) = is_condition_form c
+change_has_form (CommuteExpr x) = true
+change_has_form (BindExpr x name) = true
+change_has_form (ExpandDim size point) = is_control_form size && is_control_form point
+change_has_form (StageMem window name accum) = list_all is_coordinate_form window.1
+change_has_form (WriteConfig config field e) = true
+change_has_form (BindConfig param config field) = true
+change_has_form (DivideLoop d) = true
+change_has_form (EliminateDeadCode keep) = true
+
 abbrev pub has_form : Operation → Bool
-has_form (DivideLoop at d) = true
-has_form (CutLoop at e) = is_control_form e
-has_form (MultLoops at name) = true
-has_form (ShiftLoop at e) = is_control_form e
-has_form (ReorderLoops at) = true
-has_form (Fission at) = true
-has_form (Fuse at) = true
-has_form (JoinLoops at) = true
-has_form (UnrollLoop at) = true
-has_form (RemoveLoop at) = true
-has_form (LiftScope at) = true
-has_form (Specialize at c) = is_condition_form c
-has_form (EliminateDeadCode at keep) = true
-has_form (ReorderStmts at) = true
-has_form (CommuteExpr at x) = true
+has_form (At at change) = change_has_form change
+has_form (Whole o) = whole_is_built o
 has_form (Rename name) = true
-has_form DeletePass = true
 
 abbrev pub have_forms : Request → Bool
 have_forms (request.Apply bind of o) = has_form o

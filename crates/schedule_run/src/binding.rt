@@ -9,12 +9,16 @@ ghost use Rattle.schedule_calls.specs.PlainRequest.{moves_of};
 ghost use Rattle.schedule_laws.specs.Versions.Versions.{bound, version_of, version_at};
 ghost use Rattle.schedule_laws.specs.Versions.Versions as plain;
 ghost use Rattle.schedule_laws.specs.Versions.Places.{moved_at, then_seek};
-ghost use Rattle.schedule_laws.specs.Versions.Lines.{binding, emitting, held_place, is_instruction, searched};
+ghost use Rattle.schedule_laws.specs.Versions.Lines.{binding, emitting, held_place, is_instruction};
+ghost use Rattle.schedule_laws.specs.Versions.Lines.{searched};
 ghost use Rattle.schedule_run.specs.Outcomes.{Performs};
-ghost use Rattle.schedule_run.specs.PlainVersions.{held, origin, versions};
+ghost use Rattle.config_live.specs.Origins.{origin};
+ghost use Rattle.schedule_run.specs.PlainVersions.{held, versions};
 
-use crate::session::{Binding, Held, Origin, Session};
+use crate::session::{Binding, Held, Session};
 use crate::why::Why;
+use config_live::Origin;
+use cursor_forward::Edits;
 use cursor_patterns::Pattern;
 use exo_tree::{Name, ProcId};
 use schedule_text::source::Move;
@@ -35,17 +39,20 @@ impl Session {
         Ok(())
     }
 
-    /// Counts a step that made the version of that number, of which the unit holds the procedure, and binds the name.
+    /// Counts a step that made the version of that number, of which the unit holds the procedure,
+    /// and binds the name.
     pub(crate) fn add(
         &mut self,
         alloc: Global,
         name: &Text,
         number: ProcId,
         made: Origin,
+        edits: Edits,
         shown: u64,
     ) -> Result<(), AllocError>
         ensures added { OnOk result (versions self.new ≡ bound name.now (plain.Version number.0) (record (versions self.old) {
           origins = (versions self.old).origins ++ origin made ∷ [];
+          edits = (versions self.old).edits ++ edits ∷ [];
           steps = suc (versions self.old).steps;
           obligations = (versions self.old).obligations + shown;
         })) }
@@ -58,6 +65,7 @@ impl Session {
             return Err(AllocError);
         };
         self.origins.push(made)?;
+        self.edits.push(edits)?;
         self.steps = steps;
         self.obligations = obligations;
         self.bind(alloc, name, Held::Version(number))
@@ -74,7 +82,8 @@ impl Session {
         moves: &[Move],
     ) -> Result<(), Why>
         requires { IsUnit (program self.old.unit) }
-        ensures performs { Performs (searched (versions self.old) bind.now (plain_pattern pattern.now) nth (moves_of moves.now) (version_of (versions self.old) of.now)) (versions self.new) result }
+        ensures performs { Performs
+            (searched (versions self.old) bind.now (plain_pattern pattern.now) nth (moves_of moves.now) (version_of (versions self.old) of.now)) (versions self.new) result }
         ensures unit { OnOk result (self.new.unit ≡ self.old.unit) }
     {
         let Some(j) = self.version_of(of.as_slice()) else {
@@ -97,7 +106,8 @@ impl Session {
         moves: &[Move],
     ) -> Result<(), Why>
         requires { IsUnit (program self.old.unit) }
-        ensures performs { Performs (searched (versions self.old) bind.now (plain_pattern pattern) nth (moves_of moves.now) (version_of (versions self.old) of.now)) (versions self.new) result }
+        ensures performs { Performs
+            (searched (versions self.old) bind.now (plain_pattern pattern) nth (moves_of moves.now) (version_of (versions self.old) of.now)) (versions self.new) result }
         ensures unit { OnOk result (self.new.unit ≡ self.old.unit) }
     {
         let done = self.search(alloc, bind, of, &pattern, nth, moves);
@@ -114,7 +124,8 @@ impl Session {
         first: Move,
         more: &[Move],
     ) -> Result<(), Why>
-        ensures performs { Performs (binding (versions self.old) bind.now (then_seek (held_place (plain.held (versions self.old) of.now)) (moved_at (versions self.old) (move (plain_move first) ∷ moves_of more.now)))) (versions self.new) result }
+        ensures performs { Performs
+            (binding (versions self.old) bind.now (then_seek (held_place (plain.held (versions self.old) of.now)) (moved_at (versions self.old) (move (plain_move first) ∷ moves_of more.now)))) (versions self.new) result }
         ensures unit { OnOk result (self.new.unit ≡ self.old.unit) }
     {
         let found = self.held_place(of.as_slice())?;
@@ -135,7 +146,8 @@ impl Session {
 
     /// The version that the name holds is to be printed.
     pub(crate) fn emit(&mut self, name: &Text) -> Result<(), Why>
-        ensures performs { Performs (emitting (versions self.old) (version_of (versions self.old) name.now)) (versions self.new) result }
+        ensures performs { Performs (emitting (versions self.old) (version_of (versions self.old) name.now))
+            (versions self.new) result }
         ensures unit { OnOk result (self.new.unit ≡ self.old.unit) }
     {
         let Some(k) = self.version_of(name.as_slice()) else {

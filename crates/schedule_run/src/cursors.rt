@@ -3,17 +3,16 @@ ghost use Rattle.std.specs.Prelude.{◌≡◌, ◌∷◌, map, Some, IfOk, optio
 ghost use Rattle.exo_tree.specs.Tree.{block};
 ghost use Rattle.exo_tree.specs.PlainUnit.{program};
 ghost use Rattle.exo_meaning.specs.Units.{IsUnit};
-ghost use Rattle.config_laws.specs.Differing.{is_descendant};
 ghost use Rattle.cursor_patterns.specs.PlainPattern.{plain_pattern};
 ghost use Rattle.cursor_forward.specs.PlainCursor.{plain_cursor};
 ghost use Rattle.schedule_text.specs.Views.{plain_move};
 ghost use Rattle.schedule_calls.specs.Readings.{move};
 ghost use Rattle.schedule_calls.specs.PlainRequest.{plain_asked, plain_source, moves_of};
 ghost use Rattle.schedule_calls.specs.Requests.{Found};
-ghost use Rattle.schedule_laws.specs.Versions.Versions.{configured};
 ghost use Rattle.schedule_laws.specs.Versions.Versions as plain;
 ghost use Rattle.schedule_laws.specs.Versions.Places as places;
-ghost use Rattle.schedule_laws.specs.Versions.Places.{as_place, brought, matched, moved_at, source_at, sought};
+ghost use Rattle.schedule_laws.specs.Versions.Places.{as_place, brought, matched, moved_at};
+ghost use Rattle.schedule_laws.specs.Versions.Places.{source_at, sought};
 ghost use Rattle.schedule_laws.specs.Versions.Lines.{held_place};
 ghost use Rattle.schedule_run.specs.Outcomes.{Finds, Makes};
 ghost use Rattle.schedule_run.specs.PlainPlace.{plain_place};
@@ -23,6 +22,7 @@ ghost use Rattle.schedule_run.specs.Ways.{way_to, along};
 
 use crate::session::{Held, Session};
 use crate::why::{Missing, Why};
+use config_live::descends;
 use cursor_forward::laws::units_are_searchable;
 use cursor_forward::{
     Cursor, after, before, body, expand, find, forward, item, next, parent, prev,
@@ -53,7 +53,8 @@ fn copy_of(c: &Cursor) -> Cursor
 
 /// One move in a procedure.
 fn moved(p: &Proc, m: Move, c: &Cursor) -> Option<Cursor>
-    ensures { option_map plain_cursor result ≡ places.moved (block p.now.body) (move (plain_move m)) (plain_cursor c.now) }
+    ensures { option_map plain_cursor result
+        ≡ places.moved (block p.now.body) (move (plain_move m)) (plain_cursor c.now) }
 {
     match m {
         Move::Go(Direction::Parent) => parent(p, c),
@@ -69,7 +70,8 @@ fn moved(p: &Proc, m: Move, c: &Cursor) -> Option<Cursor>
 
 /// Moves in a procedure, one after the other.
 fn moved_all(p: &Proc, moves: &[Move], c: Cursor) -> Option<Cursor>
-    ensures { option_map plain_cursor result ≡ places.moved_all (block p.now.body) (moves_of moves.now) (plain_cursor c) }
+    ensures { option_map plain_cursor result
+        ≡ places.moved_all (block p.now.body) (moves_of moves.now) (plain_cursor c) }
 {
     let mut at = c;
     for m in moves {
@@ -82,7 +84,8 @@ impl Session {
     /// The match of that number of a pattern in a version.
     pub(crate) fn matched(&self, j: ProcId, pattern: &Pattern, nth: u32) -> Result<Place, Missing>
         requires { IsUnit (program self.now.unit) }
-        ensures { Finds plain_place (matched (versions self.now) j.0 (plain_pattern pattern.now) nth) result }
+        ensures { Finds plain_place (matched (versions self.now) j.0 (plain_pattern pattern.now) nth)
+            result }
     {
         units_are_searchable();
         match find(&self.unit, j, pattern, nth) {
@@ -104,31 +107,13 @@ impl Session {
         }
     }
 
-    /// Whether version `k` was made of another one in any number of steps, or is that one.
-    fn descends(&self, k: ProcId, from: ProcId) -> bool
-        ensures { result ≡ is_descendant (map configured (versions self.now).origins) k.0 from.0 }
-    {
-        let mut at = k;
-        let mut left = k.0;
-        while left > 0 {
-            left -= 1;
-            if at.0 == from.0 {
-                return true;
-            }
-            match self.parent(at) {
-                Some(above) => at = above,
-                None => return false,
-            }
-        }
-        at.0 == from.0
-    }
-
     /// A cursor that a name holds, in a version of which version `k` was made.
     fn place_before(&self, k: ProcId, name: &[u8]) -> Result<Place, Missing>
-        ensures { Finds plain_place (as_place (versions self.now) k.0 (plain.held (versions self.now) name.now)) result }
+        ensures { Finds plain_place
+            (as_place (versions self.now) k.0 (plain.held (versions self.now) name.now)) result }
     {
         let place = self.held_place(name)?;
-        if self.descends(k, place.version) {
+        if descends(&self.origins, k, place.version) {
             Ok(place)
         } else {
             Err(Missing::UnknownCursor)
@@ -144,10 +129,12 @@ impl Session {
         nth: u32,
     ) -> Result<Place, Missing>
         requires { IsUnit (program self.now.unit) }
-        ensures { Finds plain_place (source_at (versions self.now) k.0 (Found name.now (plain_pattern pattern.now) nth)) result }
+        ensures { Finds plain_place
+            (source_at (versions self.now) k.0
+            (Found name.now (plain_pattern pattern.now) nth)) result }
     {
         match self.version_of(name) {
-            Some(j) => if self.descends(k, j) {
+            Some(j) => if descends(&self.origins, k, j) {
                 self.matched(j, pattern, nth)
             } else {
                 Err(Missing::UnknownCursor)
@@ -175,7 +162,8 @@ impl Session {
 
     /// Moves in the version of a place.
     pub(crate) fn moved_at(&self, moves: &[Move], place: Place) -> Result<Place, Missing>
-        ensures { Finds plain_place (moved_at (versions self.now) (moves_of moves.now) (plain_place place)) result }
+        ensures { Finds plain_place (moved_at (versions self.now) (moves_of moves.now)
+            (plain_place place)) result }
     {
         let Some(p) = self.unit.procs.get(place.version.0 as usize) else {
             return Err(Missing::NoNeighbour);
@@ -196,7 +184,8 @@ impl Session {
         more: &[Move],
         place: Place,
     ) -> Result<Place, Missing>
-        ensures { Finds plain_place (moved_at (versions self.now) (move (plain_move first) ∷ moves_of more.now) (plain_place place)) result }
+        ensures { Finds plain_place (moved_at (versions self.now)
+            (move (plain_move first) ∷ moves_of more.now) (plain_place place)) result }
     {
         let Some(p) = self.unit.procs.get(place.version.0 as usize) else {
             return Err(Missing::NoNeighbour);
@@ -213,9 +202,11 @@ impl Session {
         }
     }
 
-    /// The versions made on the way from one to version `k`, the latest first; None where it was not made of that.
+    /// The versions made on the way from one to version `k`, the latest first; None where it was
+    /// not made of that.
     fn way(&self, alloc: Global, from: ProcId, k: ProcId) -> Result<Option<Vec<ProcId>>, AllocError>
-        ensures { IfOk result (λ way. option_map (λ ks. map (λ (j : ProcId). j.0) ks.items) way ≡ way_to (versions self.now) k.0 from.0 k.0) }
+        ensures { IfOk result (λ way. option_map (λ ks. map (λ (j : ProcId). j.0) ks.items) way
+            ≡ way_to (versions self.now) k.0 from.0 k.0) }
     {
         let mut way = Vec::new(alloc);
         let mut at = k;
@@ -238,14 +229,16 @@ impl Session {
 
     /// Where a cursor goes by the step that made version `k`.
     fn stepped(&self, k: ProcId, c: &Cursor) -> Option<Cursor>
-        ensures { option_map plain_cursor result ≡ places.stepped (versions self.now) k.0 (plain_cursor c.now) }
+        ensures { option_map plain_cursor result
+            ≡ places.stepped (versions self.now) k.0 (plain_cursor c.now) }
     {
-        forward(c, &self.origins.get(k.0 as usize)?.edits)
+        forward(c, self.edits.get(k.0 as usize)?)
     }
 
     /// Where a cursor goes along these versions, the latest first.
     fn along(&self, way: &[ProcId], c: Cursor) -> Option<Cursor>
-        ensures { option_map plain_cursor result ≡ along (versions self.now) (map (λ (j : ProcId). j.0) way.now) (plain_cursor c) }
+        ensures { option_map plain_cursor result
+            ≡ along (versions self.now) (map (λ (j : ProcId). j.0) way.now) (plain_cursor c) }
     {
         let mut at = c;
         let mut left = way.len();
@@ -262,7 +255,8 @@ impl Session {
 
     /// Where the cursor of a place went in version `k`.
     fn brought(&self, alloc: Global, k: ProcId, place: Place) -> Result<Cursor, Why>
-        ensures { Makes plain_cursor (as_found (brought (versions self.now) k.0 (plain_place place))) result }
+        ensures { Makes plain_cursor (as_found (brought (versions self.now) k.0 (plain_place place)))
+            result }
     {
         match self.way(alloc, place.version, k)? {
             None => Err(Why::NoPlace(Missing::CursorGone)),
@@ -276,7 +270,8 @@ impl Session {
     /// The cursor that is asked for by an operator on version `k`.
     pub(crate) fn sought(&self, alloc: Global, k: ProcId, asked: &Asked<'_>) -> Result<Cursor, Why>
         requires { IsUnit (program self.now.unit) }
-        ensures { Makes plain_cursor (as_found (sought (versions self.now) k.0 (plain_asked asked.now))) result }
+        ensures { Makes plain_cursor (as_found (sought (versions self.now) k.0 (plain_asked asked.now)))
+            result }
     {
         let source = self.source(k, &asked.source)?;
         let place = self.moved_at(asked.moves, source)?;

@@ -1,8 +1,6 @@
 //! Laws of the runs of lines, each the contract of a function with nothing to do.
 ghost use Rattle.schedule_run.specs.Laws.{LinesRunOnce, SchedulesKeep, SmallUnitsHaveRoom};
 
-pub use schedule_laws::operators::laws::schedules_differ_in_nothing;
-
 /// A line asks one thing, and lines come to one end.
 pub fn lines_run_once()
     ensures { LinesRunOnce }
@@ -10,8 +8,8 @@ pub fn lines_run_once()
     schedule_calls::laws::lines_ask_once();
 }
 
-/// What the lines of a schedule make of a well-formed unit of which nothing faults is derived: each version comes of a
-/// procedure of the unit, and refines each version of which it was made.
+/// What the lines of a schedule make of a well-formed unit of which nothing faults is derived: each
+/// version comes of a procedure of the unit, and refines each version of which it was made.
 pub fn schedules_keep()
     ensures { SchedulesKeep }
 {

@@ -2,17 +2,21 @@
 #![tactic(auto)]
 
 mod binding;
+mod buffers;
 mod cursors;
+mod fields;
 pub mod laws;
+mod named;
 mod placing;
 mod planning;
 mod resolving;
 mod run;
 mod running;
 mod session;
+mod staging;
 mod why;
 mod writes;
 
 pub use run::run_schedule;
-pub use session::{Binding, Held, Origin, Session};
+pub use session::{Binding, Held, Session};
 pub use why::{Missing, Refused, Why};

@@ -1,5 +1,5 @@
 //! Operators whose arguments have expressions: what these stand for where the operators work.
-ghost use Rattle.std.specs.Prelude.{◌≡◌, [], map, true, MatchResult};
+ghost use Rattle.std.specs.Prelude.{◌≡◌, true, MatchResult, map};
 ghost use Rattle.exo_tree.specs.PlainControl.{condition, control};
 ghost use Rattle.exo_tree.specs.PlainProcedure.{procedure};
 ghost use Rattle.exo_tree.specs.PlainUnit.{program};
@@ -12,11 +12,11 @@ ghost use Rattle.cursor_forward.specs.PlainProposal.{plain_proposal};
 ghost use Rattle.loop_laws.specs.Specialize.{specialize_rule};
 ghost use Rattle.step_rules.specs.Answer as answer;
 ghost use Rattle.step_rules.specs.Lawful.{IsTarget};
-ghost use Rattle.step_driver.specs.PlainTarget.{target, plain_piece};
+ghost use Rattle.step_driver.specs.PlainTarget.{target};
 ghost use Rattle.schedule_calls.specs.PlainRequest.{plain_asked};
-ghost use Rattle.schedule_calls.specs.Requests.{Specialize};
-ghost use Rattle.schedule_laws.specs.Operators.Operators.{call_of, control_call, control_at, condition_at};
-ghost use Rattle.schedule_run.specs.AtControl.{rule_with};
+ghost use Rattle.schedule_laws.specs.Operators.Arguments.{condition_at, control_at};
+ghost use Rattle.schedule_laws.specs.Operators.Calls.{condition_call, control_call};
+ghost use Rattle.schedule_laws.specs.Operators.Operators.{control_rule};
 ghost use Rattle.schedule_run.specs.Outcomes.{Makes};
 ghost use Rattle.schedule_run.specs.Planned.{Not, as_tried, if_known, planned};
 ghost use Rattle.schedule_run.specs.PlainWhy.{Says};
@@ -29,23 +29,18 @@ use cursor_forward::Proposal;
 use exo_tree::{Cond, Ctrl, Path};
 use loop_rewrites::{Cutting, Shifting, Specializing};
 use rules_scopes::{cond_at, ctrl_at};
-use schedule_calls::Asked;
+use schedule_calls::{Asked, ControlOperator};
 use std::alloc::Global;
 use step_driver::{Piece, Target};
+use step_targets::{AtLoop, AtPiece};
 use text_expressions::source::SourceExpr;
 
-/// The operators at a loop that take a control value.
-#[derive(Clone, Copy)]
-pub(crate) enum AtControl {
-    Cut,
-    Shift,
-}
-
 /// That the fields in a control value are there.
-fn control_known(alloc: Global, on: &Target<'_>, e: &SourceExpr) -> Result<(), Why>
+pub(crate) fn control_known(alloc: Global, on: &Target<'_>, e: &SourceExpr) -> Result<(), Why>
     requires target { IsTarget (target on.now) }
     requires form { is_control_form (tree_of e.now) ≡ true }
-    ensures { Makes (λ _. tt) (if_known (knows_fields (program on.now.unit.now).fields (tree_of e.now))) result }
+    ensures { Makes (λ _.
+        tt) (if_known (knows_fields (program on.now.unit.now).fields (tree_of e.now))) result }
 {
     ctrl_at(alloc, on.unit, on.number, &Path::new(), false, e)?;
     Ok(())
@@ -60,17 +55,23 @@ fn condition_in(
 ) -> Result<Box<Cond>, Why>
     requires target { IsTarget (target on.now) }
     requires form { is_condition_form (tree_of c.now) ≡ true }
-    ensures { MatchResult result (λ b. (knows_fields (program on.now.unit.now).fields (tree_of c.now) ≡ true) × (condition b.value ≡ condition_at (target on.now) path.now (tree_of c.now))) (λ e. Says (λ w. if_known (knows_fields (program on.now.unit.now).fields (tree_of c.now)) ≡ Not w) e) }
+    ensures { MatchResult result (λ b. (knows_fields (program on.now.unit.now).fields (tree_of c.now)
+        ≡ true) ×
+        (condition b.value
+        ≡ condition_at (target on.now) path.now (tree_of c.now))) (λ e.
+        Says (λ w.
+        if_known (knows_fields (program on.now.unit.now).fields (tree_of c.now)) ≡ Not w) e) }
 {
     let found = cond_at(alloc, on.unit, on.number, path, false, c)?;
     Ok(Box::new(alloc, found)?)
 }
 
 /// That the fields in a condition are there.
-fn condition_known(alloc: Global, on: &Target<'_>, c: &SourceExpr) -> Result<(), Why>
+pub(crate) fn condition_known(alloc: Global, on: &Target<'_>, c: &SourceExpr) -> Result<(), Why>
     requires target { IsTarget (target on.now) }
     requires form { is_condition_form (tree_of c.now) ≡ true }
-    ensures { Makes (λ _. tt) (if_known (knows_fields (program on.now.unit.now).fields (tree_of c.now))) result }
+    ensures { Makes (λ _.
+        tt) (if_known (knows_fields (program on.now.unit.now).fields (tree_of c.now))) result }
 {
     condition_in(alloc, on, &Path::new(), c)?;
     Ok(())
@@ -81,16 +82,17 @@ fn made_by(
     alloc: Global,
     on: &Target<'_>,
     path: &Path,
-    operator: AtControl,
+    operator: ControlOperator,
     e: &Ctrl,
 ) -> Result<Proposal, Why>
     requires modes { table_says on.now.modes.now ≡ modes_of (program on.now.unit.now) }
     requires target { IsTarget (target on.now) }
-    ensures { Makes plain_proposal (as_tried (answer.proposed (rule_with operator (control e.now)) (target on.now) path.now)) result }
+    ensures { Makes plain_proposal (as_tried (answer.proposed (control_rule operator (control e.now))
+        (target on.now) path.now)) result }
 {
     match operator {
-        AtControl::Cut => proposed(alloc, on, path, &Cutting { e }),
-        AtControl::Shift => proposed(alloc, on, path, &Shifting { e }),
+        ControlOperator::CutLoop => proposed(alloc, on, path, &AtLoop(Cutting { e })),
+        ControlOperator::ShiftLoop => proposed(alloc, on, path, &AtLoop(Shifting { e })),
     }
 }
 
@@ -99,14 +101,18 @@ fn resolved(
     alloc: Global,
     on: &Target<'_>,
     path: &Path,
-    operator: AtControl,
+    operator: ControlOperator,
     e: &SourceExpr,
 ) -> Result<Proposal, Why>
     requires modes { table_says on.now.modes.now ≡ modes_of (program on.now.unit.now) }
     requires target { IsTarget (target on.now) }
     requires form { is_control_form (tree_of e.now) ≡ true }
     requires known { knows_fields (program on.now.unit.now).fields (tree_of e.now) ≡ true }
-    ensures { Makes plain_proposal (as_tried (answer.proposed (rule_with operator (control_at (target on.now) path.now (tree_of e.now))) (target on.now) path.now)) result }
+    ensures { Makes plain_proposal
+        (as_tried
+        (answer.proposed
+        (control_rule operator (control_at (target on.now) path.now (tree_of e.now)))
+        (target on.now) path.now)) result }
 {
     let e = ctrl_at(alloc, on.unit, on.number, path, false, e)?;
     made_by(alloc, on, path, operator, &e)
@@ -116,12 +122,14 @@ fn resolved(
 fn specialized_by(alloc: Global, on: &Target<'_>, piece: &Piece, c: &Cond) -> Result<Proposal, Why>
     requires modes { table_says on.now.modes.now ≡ modes_of (program on.now.unit.now) }
     requires target { IsTarget (target on.now) }
-    ensures { Makes plain_proposal (as_tried (answer.proposed (specialize_rule piece.now.count (condition c.now)) (target on.now) piece.now.path)) result }
+    ensures { Makes plain_proposal
+        (as_tried (answer.proposed (specialize_rule piece.now.count (condition c.now))
+        (target on.now) piece.now.path)) result }
 {
-    let op = Specializing {
+    let op = AtPiece(Specializing {
         count: piece.count,
         c,
-    };
+    });
     proposed(alloc, on, &piece.path, &op)
 }
 
@@ -136,7 +144,10 @@ fn specialized(
     requires target { IsTarget (target on.now) }
     requires form { is_condition_form (tree_of c.now) ≡ true }
     requires known { knows_fields (program on.now.unit.now).fields (tree_of c.now) ≡ true }
-    ensures { Makes plain_proposal (as_tried (answer.proposed (specialize_rule piece.now.count (condition_at (target on.now) piece.now.path (tree_of c.now))) (target on.now) piece.now.path)) result }
+    ensures { Makes plain_proposal
+        (as_tried
+        (answer.proposed
+        (specialize_rule piece.now.count (condition_at (target on.now) piece.now.path (tree_of c.now))) (target on.now) piece.now.path)) result }
 {
     let c = condition_in(alloc, on, &piece.path, c)?;
     specialized_by(alloc, on, piece, &c)
@@ -148,15 +159,16 @@ pub(crate) fn by_control(
     on: &Target<'_>,
     s: &Session,
     at: &Asked<'_>,
-    operator: AtControl,
+    operator: ControlOperator,
     e: &SourceExpr,
 ) -> Result<Proposal, Why>
     requires modes { table_says on.now.modes.now ≡ modes_of (program on.now.unit.now) }
     requires target { IsTarget (target on.now) }
     requires unit { program on.now.unit.now ≡ program s.now.unit }
-    requires origins { map origin on.now.origins.now ≡ [] }
+    requires origins { map origin on.now.origins.now ≡ (versions s.now).origins }
     requires form { is_control_form (tree_of e.now) ≡ true }
-    ensures { Makes plain_proposal (planned (versions s.now) on.now.number.0 (procedure on.now.proc.now) (control_call (plain_asked at.now) (tree_of e.now) (rule_with operator))) result }
+    ensures { Makes plain_proposal (planned (versions s.now) on.now.number.0 (procedure on.now.proc.now)
+        (control_call (plain_asked at.now) (tree_of e.now) (control_rule operator))) result }
 {
     control_known(alloc, on, e)?;
     let path = s.statement_at(alloc, on.number, at)?;
@@ -174,9 +186,10 @@ pub(crate) fn specialize_at(
     requires modes { table_says on.now.modes.now ≡ modes_of (program on.now.unit.now) }
     requires target { IsTarget (target on.now) }
     requires unit { program on.now.unit.now ≡ program s.now.unit }
-    requires origins { map origin on.now.origins.now ≡ [] }
+    requires origins { map origin on.now.origins.now ≡ (versions s.now).origins }
     requires form { is_condition_form (tree_of c.now) ≡ true }
-    ensures { Makes plain_proposal (planned (versions s.now) on.now.number.0 (procedure on.now.proc.now) (call_of (Specialize (plain_asked at.now) (tree_of c.now)))) result }
+    ensures { Makes plain_proposal (planned (versions s.now) on.now.number.0 (procedure on.now.proc.now)
+        (condition_call (plain_asked at.now) (tree_of c.now) specialize_rule)) result }
 {
     condition_known(alloc, on, c)?;
     let piece = s.block_at(alloc, on.number, at)?;

@@ -45,7 +45,8 @@ impl Running {
     ) -> Result<(), Why>
         requires running { IsRunning self.old }
         requires forms { have_forms (plain_request request) ≡ true }
-        ensures performs { Performs (performed (versions_in self.old) (act_of (plain_request request.entry))) (versions_in self.new) result }
+        ensures performs { Performs (performed (versions_in self.old) (act_of (plain_request request.entry)))
+            (versions_in self.new) result }
         ensures running { OnOk result (IsRunning self.new) }
     {
         match request {
@@ -85,7 +86,8 @@ impl Running {
 
 /// Runs lines on the procedures of a unit, of which so many obligations were shown.
 ///
-/// The first line that is refused ends the work. What the cache held, and what threads do, changes no answer.
+/// The first line that is refused ends the work. What the cache held, and what threads do, changes
+/// no answer.
 pub fn run_schedule<R: Threads + Sync, G: Gate>(
     rt: &R,
     alloc: Global,

@@ -1,17 +1,22 @@
 //! Versions while lines run.
-ghost use Rattle.std.specs.Prelude.{◌≡◌, ◌≤◌, ◌+◌, ◌^◌, ◌∷◌, [], true, nat_le, map, length, Some, slice_get, IfOk, OnOk, MatchBool};
+ghost use Rattle.std.specs.Prelude.{◌≡◌, ◌+◌, ◌^◌, true, nat_le, map, length, Some};
+ghost use Rattle.std.specs.Prelude.{slice_get, IfOk, OnOk};
 ghost use Rattle.exo_tree.specs.Tree.{Procedure};
 ghost use Rattle.exo_tree.specs.PlainProcedure.{procedure};
 ghost use Rattle.exo_tree.specs.PlainUnit.{program};
 ghost use Rattle.exo_meaning.specs.Units.{IsUnit};
 ghost use Rattle.affine_systems.specs.Outcomes.{plain_obligation};
+ghost use Rattle.config_live.specs.Origins.{origin};
+ghost use Rattle.config_live.specs.Places.{side_taken};
+ghost use Rattle.cursor_forward.specs.PlainCursor.{plain_side};
 ghost use Rattle.cursor_forward.specs.PlainProposal.{plain_proposal};
 ghost use Rattle.made_trees.specs.Ids as ids;
+ghost use Rattle.step_rules.specs.Lawful.{config_side};
 ghost use Rattle.tree_laws.specs.Findings.Versions as longer;
 ghost use Rattle.tree_laws.specs.Findings.Versions.{with_version};
 ghost use Rattle.schedule_calls.specs.PlainRequest.{plain_operation};
-ghost use Rattle.schedule_laws.specs.Versions.Versions.{started, version_of};
-ghost use Rattle.schedule_laws.specs.Versions.Lines.{called};
+ghost use Rattle.schedule_laws.specs.Versions.Versions.{made_of, started};
+ghost use Rattle.schedule_laws.specs.Versions.Lines.{Apply, performed};
 ghost use Rattle.schedule_laws.specs.Operators.Operators.{call_of};
 ghost use Rattle.schedule_run.specs.Outcomes.{Makes, Performs};
 ghost use Rattle.schedule_run.specs.Planned as plans;
@@ -19,14 +24,16 @@ ghost use Rattle.schedule_run.specs.Planned.{has_form, planned_of, stepped, owed
 ghost use Rattle.schedule_run.specs.Running.{IsRunning, versions_in};
 
 use crate::binding::let_go;
+use crate::fields::is_formed;
 use crate::planning::planned;
-use crate::session::{Held, Origin, Session, number_of};
+use crate::session::{Session, number_of};
 use crate::why::Why;
 use crate::writes::{add_writes, writes_of};
 use affine_systems::Obligation;
 use bounds_check::obligations_with_tables;
+use config_live::{FieldList, Origin};
 use config_state::FieldTable;
-use cursor_forward::Proposal;
+use cursor_forward::{Proposal, Side};
 use exo_modes::ModeTable;
 use exo_tree::{Proc, ProcId, Unit};
 use made_trees::next_id;
@@ -39,8 +46,8 @@ use step_rules::laws::proposals_are_kept;
 use text_lexer::text::Text;
 use unit_check::show;
 
-/// Versions, with the tables that steps need: how each procedure touches its buffers, and which fields it may write.
-/// Nothing of a version is copied when another one comes.
+/// Versions, with the tables that steps need: how each procedure touches its buffers, and which
+/// fields it may write. Nothing of a version is copied when another one comes.
 #[derive(Drop)]
 pub(crate) struct Running {
     pub session: Session,
@@ -73,12 +80,16 @@ impl Running {
         })
     }
 
-    /// What an operation makes of version `k`. Without room for a step it is answered as want of memory.
+    /// What an operation makes of version `k`. Without room for a step it is answered as want of
+    /// memory.
     fn plan(&self, alloc: Global, k: ProcId, operation: &Operation<'_>) -> Result<Proposal, Why>
         requires running { IsRunning self.now }
         requires form { has_form (plain_operation operation.now) ≡ true }
-        ensures made { Makes plain_proposal (planned_of (versions_in self.now) (call_of (plain_operation operation.now)) k.0) result }
-        ensures kept { IfOk result (λ m. IsUnit (with_version (program self.now.session.unit) (procedure m.proc))) }
+        requires formed { (call_of (plain_operation operation.now)).formed (versions_in self.now) ≡ true }
+        ensures made { Makes plain_proposal (planned_of (versions_in self.now)
+            (call_of (plain_operation operation.now)) k.0) result }
+        ensures kept { IfOk result (λ m.
+            IsUnit (with_version (program self.now.session.unit) (procedure m.proc))) }
     {
         proposals_are_kept();
         let Some(proc) = self.session.unit.procs.get(k.0 as usize) else {
@@ -89,7 +100,7 @@ impl Running {
         }
         let on = Target {
             unit: &self.session.unit,
-            origins: &[],
+            origins: &self.session.origins,
             modes: &self.modes,
             number: k,
             proc,
@@ -102,7 +113,9 @@ impl Running {
         requires running { IsRunning self.old }
         requires kept { IsUnit (with_version (program self.old.session.unit) (procedure proc)) }
         ensures number { IfOk result (λ k. k.0 ≡ length (program self.old.session.unit).procedures) }
-        ensures pushed { OnOk result (versions_in self.new ≡ record (versions_in self.old) { unit = with_version (program self.old.session.unit) (procedure proc) }) }
+        ensures pushed { OnOk result (versions_in self.new
+            ≡ record (versions_in self.old)
+            { unit = with_version (program self.old.session.unit) (procedure proc) }) }
         ensures running { OnOk result (IsRunning self.new) }
     {
         let number = number_of(self.session.unit.procs.len())?;
@@ -128,7 +141,9 @@ impl Running {
         gate: &G,
     ) -> Result<u64, Why>
         requires { IsRunning self.now }
-        ensures { (q : Procedure) → slice_get (program self.now.session.unit).procedures p.0 ≡ Some q → Makes (λ n. n) (owed_with (program self.now.session.unit) (map plain_obligation must.now) q) result }
+        ensures { (q : Procedure) → slice_get (program self.now.session.unit).procedures p.0 ≡ Some q →
+            Makes (λ n.
+            n) (owed_with (program self.now.session.unit) (map plain_obligation must.now) q) result }
     {
         let owed = obligations_with_tables(
             alloc,
@@ -155,27 +170,21 @@ impl Running {
     ) -> Result<(), Why>
         requires running { IsRunning self.old }
         requires kept { IsUnit (with_version (program self.old.session.unit) (procedure made.proc)) }
-        ensures performs { Performs (stepped (versions_in self.old) bind.now k.0 (plans.Got (plain_proposal made))) (versions_in self.new) result }
+        ensures performs { Performs
+            (stepped (versions_in self.old) bind.now k.0 (plans.Got (plain_proposal made)))
+            (versions_in self.new) result }
         ensures running { OnOk result (IsRunning self.new) }
     {
+        let origin = origin_of(alloc, k, &made)?;
         let Proposal {
             proc,
             must,
             edits,
-            fields,
-            place,
-            side,
+            ..
         } = made;
-        let origin = Origin {
-            parent: Some(k),
-            edits,
-            place,
-            side,
-            fields,
-        };
         let number = self.push(alloc, proc)?;
         let shown = self.shown(rt, alloc, number, &must, cache, gate)?;
-        self.session.add(alloc, bind, number, origin, shown)?;
+        self.session.add(alloc, bind, number, origin, edits, shown)?;
         Ok(())
     }
 
@@ -192,9 +201,13 @@ impl Running {
     ) -> Result<(), Why>
         requires running { IsRunning self.old }
         requires form { has_form (plain_operation operation.now) ≡ true }
-        ensures performs { Performs (called (versions_in self.old) bind.now (call_of (plain_operation operation.now)) (version_of (versions_in self.old) of.now)) (versions_in self.new) result }
+        ensures performs { Performs
+            (performed (versions_in self.old) (Apply bind.now of.now (call_of (plain_operation operation.now)))) (versions_in self.new) result }
         ensures running { OnOk result (IsRunning self.new) }
     {
+        if !is_formed(&self.session, operation) {
+            return Err(Why::BadArguments);
+        }
         let Some(k) = self.session.version_of(of.as_slice()) else {
             return Err(Why::UnknownProc);
         };
@@ -215,13 +228,37 @@ impl Running {
     ) -> Result<(), Why>
         requires running { IsRunning self.old }
         requires form { has_form (plain_operation operation) ≡ true }
-        ensures performs { Performs (called (versions_in self.old) bind.now (call_of (plain_operation operation.entry)) (version_of (versions_in self.old) of.now)) (versions_in self.new) result }
+        ensures performs { Performs
+            (performed (versions_in self.old) (Apply bind.now of.now (call_of (plain_operation operation.entry)))) (versions_in self.new) result }
         ensures running { OnOk result (IsRunning self.new) }
     {
         let done = self.apply(rt, alloc, bind, of, &operation, cache, gate);
         let_go(operation);
         done
     }
+}
+
+/// The same side, as origins tell it.
+fn side_of(side: Side) -> config_live::Side
+    ensures { side_taken result ≡ config_side (plain_side side) }
+{
+    match side {
+        Side::Before => config_live::Side::Before,
+        Side::After => config_live::Side::After,
+    }
+}
+
+/// How what a step made of version `k` was made.
+fn origin_of(alloc: Global, k: ProcId, made: &Proposal) -> Result<Origin, AllocError>
+    ensures { IfOk result (λ o. origin o ≡ made_of k.0 (plain_proposal made.now)) }
+{
+    let fields = FieldList::of(alloc, &made.fields)?;
+    Ok(Origin {
+        parent: Some(k),
+        place: made.place.duplicate(),
+        side: side_of(made.side),
+        fields,
+    })
 }
 
 /// The sum; one past the greatest number is answered as want of memory.

@@ -1,30 +1,19 @@
 //! Versions: the procedures of a text and those that steps made of them.
-ghost use Rattle.std.specs.Prelude.{◌≡◌, IfOk, MatchResult, option_map};
+ghost use Rattle.std.specs.Prelude.{◌≡◌, IfOk, option_map};
 ghost use Rattle.std.specs.Option.{option_copied};
 ghost use Rattle.std.specs.Str.{bytes_eq};
 ghost use Rattle.exo_tree.specs.PlainUnit.{program};
-ghost use Rattle.schedule_laws.specs.Versions.Versions.{of_text, started, version_of};
+ghost use Rattle.schedule_laws.specs.Versions.Versions.{of_text, started, unmoved, version_of};
 ghost use Rattle.schedule_laws.specs.Versions.Versions as plain;
 ghost use Rattle.schedule_laws.specs.Versions.Places.{parent_at};
-ghost use Rattle.schedule_run.specs.PlainVersions.{origin, held, versions};
+ghost use Rattle.config_live.specs.Origins.{origin};
+ghost use Rattle.schedule_run.specs.PlainVersions.{held, versions};
 ghost use Rattle.schedule_run.specs.Roots.{root_of};
 
-use cursor_forward::{Cursor, Edits, Shifts, Side};
-use exo_tree::{FieldId, Name, Path, ProcId, Unit};
+use config_live::{FieldList, Origin, Side};
+use cursor_forward::{Cursor, Edits, Shifts};
+use exo_tree::{Name, Path, ProcId, Unit};
 use std::alloc::{AllocError, Global};
-
-/// How a version was made.
-#[derive(Drop)]
-pub struct Origin {
-    /// The version of which it was made; None of a procedure of the text.
-    pub parent: Option<ProcId>,
-    /// Where the statements of that version went.
-    pub edits: Edits,
-    /// The point from which the fields may differ: before or after the statement at `place`.
-    pub place: Path,
-    pub side: Side,
-    pub fields: Vec<FieldId>,
-}
 
 /// What a name holds.
 #[derive(Drop)]
@@ -41,12 +30,14 @@ pub struct Binding {
     pub held: Held,
 }
 
-/// The versions of a schedule. They are the procedures of its unit, first those of the text; each has its origin under
-/// its number.
+/// The versions of a schedule. They are the procedures of its unit, first those of the text; each
+/// has its origin under its number.
 #[derive(Drop)]
 pub struct Session {
     pub unit: Unit,
     pub origins: Vec<Origin>,
+    /// Where the statements of the version went of which each was made.
+    pub edits: Vec<Edits>,
     /// All bindings in their order: the latest one of a name holds.
     pub names: Vec<Binding>,
     /// The versions to be printed, in the order of their lines.
@@ -80,19 +71,27 @@ fn origin_of_text(alloc: Global) -> Origin
 {
     Origin {
         parent: None,
-        edits: Edits::new(Path::new(), 0, 0, Shifts::new(alloc)),
         place: Path::new(),
         side: Side::Before,
-        fields: Vec::new(alloc),
+        fields: FieldList::new(alloc),
     }
 }
 
+/// Where its statements went: it was made of none.
+fn unmoved(alloc: Global) -> Edits
+    ensures { result ≡ unmoved }
+{
+    Edits::new(Path::new(), 0, 0, Shifts::new(alloc))
+}
+
 impl Session {
-    /// The versions before the first line: each procedure of the text, under its name. So many obligations were shown.
+    /// The versions before the first line: each procedure of the text, under its name. So many
+    /// obligations were shown.
     pub(crate) fn start(alloc: Global, unit: Unit, shown: u64) -> Result<Session, AllocError>
         ensures { IfOk result (λ s. versions s ≡ started (program unit) shown) }
     {
         let mut origins = Vec::new(alloc);
+        let mut edits = Vec::new(alloc);
         let mut names = Vec::new(alloc);
         for p in unit.procs.as_slice() {
             let number = number_of(origins.len())?;
@@ -102,10 +101,12 @@ impl Session {
                 held: Held::Version(number),
             })?;
             origins.push(origin_of_text(alloc))?;
+            edits.push(unmoved(alloc))?;
         }
         Ok(Session {
             unit,
             origins,
+            edits,
             names,
             emitted: Vec::new(alloc),
             steps: 0,

@@ -1,6 +1,7 @@
 //! Why a line is refused.
 ghost use Rattle.std.specs.Prelude.{◌≡◌};
-ghost use Rattle.schedule_run.specs.PlainWhy.{why_of_argument, why_of_step, why_of_list, why_of_show};
+ghost use Rattle.schedule_run.specs.PlainWhy.{why_of_argument, why_of_step, why_of_list};
+ghost use Rattle.schedule_run.specs.PlainWhy.{why_of_show};
 ghost use Rattle.schedule_run.specs.declared.why.Why.TheVariants as why;
 
 use affine_forms::FormError;
@@ -14,8 +15,8 @@ use std::alloc::{AllocError, AllocFailed};
 /// Why there is no cursor.
 #[derive(Clone, Copy, Debug, PartialEq, Eq)]
 pub enum Missing {
-    /// No cursor has that name, the name in a `find` holds no version, or the cursor is in a version of which the
-    /// given one was not made.
+    /// No cursor has that name, the name in a `find` holds no version, or the cursor is in a
+    /// version of which the given one was not made.
     UnknownCursor,
     /// The pattern has not so many matches.
     NoSuchPattern,
@@ -30,8 +31,8 @@ pub enum Missing {
 pub enum Why {
     /// There is no operator of that name.
     UnknownOperator,
-    /// The arguments have not the operator's number or forms, a string is none of its place, or an instruction is
-    /// to be printed.
+    /// The arguments have not the operator's number or forms, a string is none of its place, or an
+    /// instruction is to be printed.
     BadArguments,
     /// The name holds no version.
     UnknownProc,
@@ -43,8 +44,8 @@ pub enum Why {
     Step(StepError),
     /// What the result owes can't be listed; never for want of memory.
     Check(CheckError),
-    /// What the step or its result owes is not shown: the first claim as it is written, the place of it, and the
-    /// verdict.
+    /// What the step or its result owes is not shown: the first claim as it is written, the place
+    /// of it, and the verdict.
     NotShown {
         what: Text,
         place: Path,

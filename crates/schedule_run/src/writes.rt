@@ -1,5 +1,5 @@
 //! Which fields each procedure may write.
-ghost use Rattle.std.specs.Prelude.{◌≡◌, ◌++◌, ◌∷◌, [], List, length, IfOk, OnOk};
+ghost use Rattle.std.specs.Prelude.{◌++◌, ◌∷◌, [], List, length, IfOk, OnOk};
 ghost use Rattle.exo_tree.specs.Tree.{Procedure};
 ghost use Rattle.exo_tree.specs.PlainProcedure.{procedure};
 ghost use Rattle.exo_tree.specs.PlainUnit.{program};
@@ -16,7 +16,8 @@ pub(crate) fn add_writes(
     fields: usize,
     p: &Proc,
 ) -> Result<(), AllocError>
-    ensures { OnOk result ((ps : List Procedure) → AreWrites fields ps table.old → AreWrites fields (ps ++ procedure p.now ∷ []) table.new) }
+    ensures { OnOk result ((ps : List Procedure) → AreWrites fields ps table.old →
+        AreWrites fields (ps ++ procedure p.now ∷ []) table.new) }
 {
     let mut set = FieldSet::empty(alloc, fields)?;
     add_written(&p.body, table, &mut set);

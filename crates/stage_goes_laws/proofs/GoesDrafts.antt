@@ -201,19 +201,19 @@ module _ (simple : Control → Control) (a : ℕ) where
       ap₂ (λ i j. Select i j (simplified_datum simple is_a f) (simplified_datum simple is_a g))
       (datum_is d p.0) (datum_is e q.0) ∙ ap₂ (Select d e) (datum_is f r.0) (datum_is g r.1)
 
+  argument_is : (g : Argument) → in_argument is_a g ≡ false → simplified_argument simple is_a g ≡ g
+  argument_is (ControlArg e) h = refl
+  argument_is (ConditionArg c) h = refl
+  argument_is (Whole y) h = refl
+  argument_is (Window y ds) h =
+      ap (Window y) (as_given y ds (or_parts (is_a y) (in_coords is_a ds) h).0)
+
   arguments_are : (gs : List Argument) → in_arguments is_a gs ≡ false
       → simplified_arguments simple is_a gs ≡ gs
   arguments_are [] h = refl
   arguments_are (g ∷ gs) h =
       let p = or_parts (in_argument is_a g) (in_arguments is_a gs) h in
-      ap₂ ◌∷◌ (one g p.0) (arguments_are gs p.1)
-    where
-      one : (g : Argument) → in_argument is_a g ≡ false → simplified_argument simple is_a g ≡ g
-      one (ControlArg e) h = refl
-      one (ConditionArg c) h = refl
-      one (Whole y) h = refl
-      one (Window y ds) h =
-          ap (Window y) (as_given y ds (or_parts (is_a y) (in_coords is_a ds) h).0)
+      ap₂ ◌∷◌ (argument_is g p.0) (arguments_are gs p.1)
 
   stored_is : (f : ℕ → List Control → Datum → Statement) (y : ℕ) (is : List Control) (d : Datum)
       → (is_a y || (in_controls is_a is || in_datum is_a d)) ≡ false
@@ -234,7 +234,7 @@ module _ (simple : Control → Control) (a : ℕ) where
         → simplified_statement simple is_a d ≡ d
     statement_is (Assign y is d) h = stored_is Assign y is d h
     statement_is (Reduce y is d) h = stored_is Reduce y is d h
-    statement_is (Config f g) h = refl
+    statement_is (Config f g) h = ap (Config f) (argument_is g h)
     statement_is Pass h = refl
     statement_is (If c b d) h =
         let p = or_parts (in_condition is_a c) (mentions is_a b || mentions is_a d) h in

@@ -1,3 +1,4 @@
 pub mod PlainFork
 pub mod PlainNeighbours
 pub mod PlainLifting
+pub mod Fits

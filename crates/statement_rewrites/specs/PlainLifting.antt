@@ -1,6 +1,6 @@
 -- The plain form of what goes outside.
 use Rattle.exo_tree.specs.PlainControl.{condition}
-use Rattle.loop_rewrites.specs.Shapes.PlainLoop.{plain_loop}
+use Rattle.step_targets.specs.PlainLoop.{plain_loop}
 use Rattle.proc_laws.specs.Statement.LiftScope as plain
 use Rattle.proc_laws.specs.Statement.LiftScope.{Lifting}
 use Rattle.statement_rewrites.specs.PlainFork.{plain_fork}

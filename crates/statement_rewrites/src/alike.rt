@@ -13,20 +13,20 @@ ghost use Rattle.step_driver.specs.PlainTarget.{target, plain_piece};
 ghost use Rattle.step_driver.specs.Spots.{spot_at};
 ghost use Rattle.step_fields.specs.Fields.{written_in, read_in};
 ghost use Rattle.step_needs.specs.Outcomes.{Refuses};
-ghost use Rattle.loop_rewrites.specs.Shapes.PlainLoop.{plain_loop};
+ghost use Rattle.step_targets.specs.PlainLoop.{plain_loop};
 
 use cursor_forward::StepError;
 use exo_modes::ModeTable;
 use exo_tree::{Block, Unit};
-use loop_rewrites::shapes::{Alone, LoopAt, loop_at};
 use piece_modes::sees_own_root;
 use std::alloc::{AllocError, Global};
 use step_driver::{Piece, Target};
 use step_fields::{have_common, may_read, may_write};
+use step_targets::{Alone, LoopAt, loop_at};
 use tree_mentions::in_block;
 
 /// Whether the body of a loop mentions its variable.
-fn has_variable(l: &LoopAt<'_>) -> bool
+pub(crate) fn has_variable(l: &LoopAt<'_>) -> bool
     ensures { result ≡ unseen.in_block (λ x. x == (plain_loop l.now).binder.id) (plain_loop l.now).body }
 {
     in_block(&Alone { id: l.binder.id }, l.body, 0)

@@ -11,11 +11,11 @@ ghost use Rattle.statement_rewrites.specs.PlainFork.{plain_fork};
 
 use cursor_forward::Shifts;
 use exo_tree::{Block, Branch, Cond, Path, Step, Stmt};
-use loop_rewrites::shapes::{all_moved, at_index, one};
 use made_trees::or_pass;
 use std::alloc::{AllocError, Global};
 use step_driver::{Piece, Target};
 use step_needs::{Fact, Need};
+use step_targets::{all_moved, at_index, single_need};
 
 /// A condition of a procedure, with its branches.
 #[derive(Clone, Copy)]
@@ -89,8 +89,8 @@ impl ForkAt<'_> {
     {
         let test = self.test.duplicate(alloc)?;
         match keep {
-            Branch::Main => one(alloc, at, Fact::Holds(test)),
-            Branch::Else => one(alloc, at, Fact::Fails(test)),
+            Branch::Main => single_need(alloc, at, Fact::Holds(test)),
+            Branch::Else => single_need(alloc, at, Fact::Fails(test)),
         }
     }
 

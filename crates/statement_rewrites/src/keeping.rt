@@ -1,38 +1,37 @@
 //! The step that keeps one branch of a condition.
-ghost use Rattle.std.specs.Prelude.{◌≡◌, IfOk};
+ghost use Rattle.std.specs.Prelude.{refl};
 ghost use Rattle.exo_tree.specs.PlainPlace.{branch_taken};
-ghost use Rattle.exo_tree.specs.PlainUnit.{program};
-ghost use Rattle.exo_modes.specs.Marks.{modes_of};
-ghost use Rattle.exo_modes.specs.Seen.{table_says};
-ghost use Rattle.cursor_forward.specs.PlainProposal.{plain_proposal};
-ghost use Rattle.step_rules.specs.Answer.{proposed};
-ghost use Rattle.step_rules.specs.Lawful.{IsTarget};
 ghost use Rattle.proc_laws.specs.Statement.DeadCode.{keep_rule};
 ghost use Rattle.proc_laws.proofs.OfStatement.DeadCode.{keep_is_lawful, keep_is_carrying};
-ghost use Rattle.step_driver.specs.Outcomes.{Tries, IsKept, KeepsMeaning, Moves};
-ghost use Rattle.step_driver.specs.PlainTarget.{target};
 
 use crate::forks::fork_at;
-use cursor_forward::{Proposal, Shifts, StepError};
-use exo_tree::{Block, Branch, Name, Path, Proc};
+use cursor_forward::{Shifts, StepError};
+use exo_tree::{Block, Branch, Path};
 use made_trees::Fresh;
 use std::alloc::{AllocError, Global};
-use step_driver::{Exit, Operator, Piece, Target, Writing, propose};
+use step_driver::{Piece, Target, Writing};
 use step_needs::Need;
+use step_targets::{OnPiece, Plain};
 
-/// The step that keeps one branch of a condition, which is always taken.
+/// The step that keeps one branch of a condition, or a `pass` where that branch is missing. It owes that the condition
+/// always holds, or, for the branch after `else`, that it always fails. `WrongShape` where no condition stands there;
+/// `NameTaken` where the branch binds a name that is taken in the block round it.
 #[derive(Drop)]
 pub struct Keeping {
     pub keep: Branch,
 }
 
-impl Operator for Keeping {
+impl Plain for Keeping {
     ghost rule = { λ o. keep_rule (branch_taken o.keep) };
+
+    ghost is_plain = { λ o. refl };
 
     ghost lawful = { λ o. keep_is_lawful (branch_taken o.keep) };
 
     ghost carrying = { λ o. keep_is_carrying (branch_taken o.keep) };
+}
 
+impl OnPiece for Keeping {
     fn piece(&self, _alloc: Global, on: &Target<'_>, at: &Path) -> Result<Piece, StepError> {
         let piece = Piece::one(at);
         match fork_at(on, &piece) {
@@ -41,7 +40,7 @@ impl Operator for Keeping {
         }
     }
 
-    fn draft(
+    fn made(
         &self,
         alloc: Global,
         on: &Target<'_>,
@@ -53,14 +52,6 @@ impl Operator for Keeping {
             None => Err(StepError::WrongShape),
             Some(k) => Ok(k.kept(alloc, self.keep)?),
         }
-    }
-
-    fn named(&self) -> u16 {
-        0
-    }
-
-    fn refusal(&self, _alloc: Global, _on: &Target<'_>, _piece: &Piece) -> Result<(), StepError> {
-        Ok(())
     }
 
     fn needs(
@@ -75,37 +66,10 @@ impl Operator for Keeping {
         }
     }
 
-    fn shifts(&self, alloc: Global, on: &Target<'_>, piece: &Piece) -> Result<Shifts, AllocError> {
+    fn moved(&self, alloc: Global, on: &Target<'_>, piece: &Piece) -> Result<Shifts, AllocError> {
         match fork_at(on, piece) {
             None => Ok(Shifts::new(alloc)),
             Some(k) => k.moved(alloc, self.keep),
         }
     }
-
-    fn name(&self, alloc: Global, p: &Proc) -> Result<Name, AllocError> {
-        p.name.duplicate(alloc)
-    }
-
-    fn exit(&self, alloc: Global, _on: &Target<'_>, _piece: &Piece) -> Result<Exit, AllocError> {
-        Ok(Exit::unchanged(alloc))
-    }
-}
-
-/// The procedure with one branch of the condition at a path in its place, or a `pass` where that branch is missing. It
-/// owes that the condition always holds, or, for the branch after `else`, that it always fails. `WrongShape` where no
-/// condition stands there; `NameTaken` where the branch binds a name that is taken in the block round it.
-pub fn keep_branch(
-    alloc: Global,
-    on: &Target<'_>,
-    at: &Path,
-    keep: Branch,
-) -> Result<Proposal, StepError>
-    requires modes { table_says on.now.modes.now ≡ modes_of (program on.now.unit.now) }
-    requires target { IsTarget (target on.now) }
-    ensures answer { Tries plain_proposal (proposed (keep_rule (branch_taken keep)) (target on.now) at.now) result }
-    ensures kept { IfOk result (λ m. IsKept (target on.now) (plain_proposal m)) }
-    ensures meaning { IfOk result (λ m. KeepsMeaning (target on.now) (plain_proposal m)) }
-    ensures moves { IfOk result (λ m. Moves (target on.now) (plain_proposal m)) }
-{
-    propose(alloc, on, at, &Keeping { keep })
 }

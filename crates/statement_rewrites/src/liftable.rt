@@ -16,7 +16,7 @@ ghost use Rattle.step_driver.specs.Spots.{spot_at};
 ghost use Rattle.step_fields.specs.Fields.{IsFieldSet, written_in};
 ghost use Rattle.step_needs.specs.Outcomes.{Refuses};
 ghost use Rattle.step_rules.specs.Shapes.{alone_in};
-ghost use Rattle.loop_rewrites.specs.Shapes.PlainLoop.{plain_loop};
+ghost use Rattle.step_targets.specs.PlainLoop.{plain_loop};
 ghost use Rattle.statement_rewrites.specs.PlainFork.{plain_fork};
 ghost use Rattle.statement_rewrites.specs.PlainLifting.{plain_lifting};
 
@@ -24,13 +24,14 @@ use crate::forks::{ForkAt, fork_in};
 use config_state::{FieldSet, add_condition};
 use cursor_forward::{Shifts, StepError};
 use exo_tree::{Arg, Block, Branch, Cond, Path, Step, Stmt, Unit};
-use loop_rewrites::shapes::{
-    Alone, FIRST, LoopAt, all_moved, alone_to, at_index, inside, only_statement, range_to, size,
-};
 use made_trees::Fresh;
 use std::alloc::{AllocError, Global};
 use step_driver::{Piece, Target};
 use step_fields::{have_common, may_write};
+use step_targets::{
+    Alone, FIRST, LoopAt, all_moved, alone_to, at_index, only_statement, path_below, range_to,
+    statement_count,
+};
 use tree_mentions::in_argument;
 
 /// What goes outside, and what it leaves.
@@ -227,7 +228,7 @@ fn else_moved(alloc: Global, other: &Block) -> Result<Shifts, AllocError>
 fn else_in_loop() -> Path
     ensures { result ≡ plain.else_in_loop }
 {
-    let mut path = inside(1);
+    let mut path = path_below(1);
     path.push(OTHER);
     path
 }
@@ -246,10 +247,10 @@ fn loop_in_else() -> Path
 fn add_turned(all: &mut Shifts, within: &Block) -> Result<(), AllocError>
     ensures { OnOk result (all.new ≡ all.old ++ plain.turned_round (length (statements (block within.now)))) }
 {
-    let count = size(within)?;
-    all.push(alone_to(at_index(0), inside(1)))?;
-    all.push(alone_to(inside(1), at_index(0)))?;
-    all.push(range_to(inside(2), count, inside(2)))
+    let count = statement_count(within)?;
+    all.push(alone_to(at_index(0), path_below(1)))?;
+    all.push(alone_to(path_below(1), at_index(0)))?;
+    all.push(range_to(path_below(2), count, path_below(2)))
 }
 
 /// That two statements change places, and what stands in the inner one stays there.

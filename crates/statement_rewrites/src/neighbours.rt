@@ -17,10 +17,10 @@ ghost use Rattle.statement_rewrites.specs.PlainNeighbours.{plain_neighbours, use
 use config_state::FieldSet;
 use cursor_forward::StepError;
 use exo_tree::{Block, Id, Path, Stmt, Unit};
-use loop_rewrites::shapes::{apart, binds, onward};
 use std::alloc::{AllocError, Global};
 use step_fields::{have_common, statement_may_read, statement_may_write};
 use step_needs::{Conflict, Need, Turns};
+use step_targets::{apart, binds, path_onward};
 use tree_mentions::{Names, in_block};
 
 /// The name that a statement binds.
@@ -137,7 +137,7 @@ impl Neighbours<'_> {
     pub(crate) fn owed(&self, alloc: Global, at: &Path) -> Result<Vec<Need>, AllocError>
         ensures { IfOk result (λ ns. map plain_need ns.items ≡ plain.reorder_needs at.now (Some (plain_neighbours self.now))) }
     {
-        let next = onward(at, 1, &[])?;
+        let next = path_onward(at, 1, &[])?;
         apart(alloc, at, meeting(alloc, at.duplicate(), next))
     }
 }

@@ -1,58 +1,36 @@
 //! The step that puts the body of a loop in its place.
-ghost use Rattle.std.specs.Prelude.{◌≡◌, IfOk};
-ghost use Rattle.exo_tree.specs.PlainUnit.{program};
-ghost use Rattle.exo_modes.specs.Marks.{modes_of};
-ghost use Rattle.exo_modes.specs.Seen.{table_says};
-ghost use Rattle.cursor_forward.specs.PlainProposal.{plain_proposal};
-ghost use Rattle.step_rules.specs.Answer.{proposed};
-ghost use Rattle.step_rules.specs.Lawful.{IsTarget};
+ghost use Rattle.std.specs.Prelude.{◌==◌, not, refl};
+ghost use Rattle.exo_meaning.specs.Unseen.{in_block};
+ghost use Rattle.proc_laws.specs.Statement.RemoveLoop.{removable, remove_needs, out_of_loop};
 ghost use Rattle.proc_laws.specs.Statement.RemoveLoop.{remove_rule};
 ghost use Rattle.proc_laws.proofs.OfStatement.RemoveLoop.{remove_is_lawful, remove_is_carrying};
-ghost use Rattle.step_driver.specs.Outcomes.{Tries, IsKept, KeepsMeaning, Moves};
-ghost use Rattle.step_driver.specs.PlainTarget.{target};
+ghost use Rattle.statement_rewrites.specs.Fits.{removable_fits};
 
-use crate::alike::{removable_at, unless_it_sees_own};
-use crate::loops::a_turn;
-use cursor_forward::{Proposal, Shifts, StepError};
-use exo_tree::{Block, Name, Path, Proc};
-use loop_rewrites::shapes::{all_moved, at_index, inside};
+use crate::alike::{has_variable, removable_at, unless_it_sees_own};
+use cursor_forward::{Shifts, StepError};
+use exo_tree::{Block, Cond, Path};
 use made_trees::Fresh;
 use std::alloc::{AllocError, Global};
-use step_driver::{Exit, Operator, Piece, Target, Writing, propose};
-use step_needs::Need;
+use step_driver::{Piece, Target};
+use step_needs::{Fact, Need};
+use step_targets::{LoopAt, OnLoop, Ruled, all_moved, at_index, copies, path_below, single_need};
 
-/// The step that puts the body of a loop in its place, where all turns do the same.
+/// The step that puts the body of a loop in its place, where all turns do the same. It owes that
+/// the loop has a turn. `WrongShape` where no loop stands there, or its body mentions its variable;
+/// `NotIdempotent` where the body reduces into a buffer from outside, or reads a buffer from
+/// outside, or a field, that it may write, directly, through views, or by calls; `NameTaken` where
+/// the body binds a name that is taken in the block round it.
 #[derive(Drop)]
 pub struct Removing;
 
-impl Operator for Removing {
+impl Ruled for Removing {
     ghost rule = { λ o. remove_rule };
+
+    ghost is_quiet = { λ o. refl };
 
     ghost lawful = { λ o. remove_is_lawful };
 
     ghost carrying = { λ o. remove_is_carrying };
-
-    fn piece(&self, _alloc: Global, on: &Target<'_>, at: &Path) -> Result<Piece, StepError> {
-        let piece = Piece::one(at);
-        match removable_at(on, &piece) {
-            None => Err(StepError::WrongShape),
-            Some(_) => Ok(piece),
-        }
-    }
-
-    fn draft(
-        &self,
-        alloc: Global,
-        on: &Target<'_>,
-        piece: &Piece,
-        _how: Writing,
-        _fresh: &mut Fresh,
-    ) -> Result<Block, StepError> {
-        match removable_at(on, piece) {
-            None => Err(StepError::WrongShape),
-            Some(l) => Ok(l.body.duplicate(alloc)?),
-        }
-    }
 
     fn named(&self) -> u16 {
         0
@@ -64,46 +42,37 @@ impl Operator for Removing {
             Some(l) => unless_it_sees_own(alloc, on, piece, &l),
         }
     }
-
-    fn needs(
-        &self,
-        alloc: Global,
-        on: &Target<'_>,
-        piece: &Piece,
-    ) -> Result<Vec<Need>, AllocError> {
-        match removable_at(on, piece) {
-            None => Ok(Vec::new(alloc)),
-            Some(l) => a_turn(alloc, &l, &piece.path),
-        }
-    }
-
-    fn shifts(&self, alloc: Global, on: &Target<'_>, piece: &Piece) -> Result<Shifts, AllocError> {
-        match removable_at(on, piece) {
-            None => Ok(Shifts::new(alloc)),
-            Some(l) => all_moved(alloc, l.body, inside(1), at_index(0)),
-        }
-    }
-
-    fn name(&self, alloc: Global, p: &Proc) -> Result<Name, AllocError> {
-        p.name.duplicate(alloc)
-    }
-
-    fn exit(&self, alloc: Global, _on: &Target<'_>, _piece: &Piece) -> Result<Exit, AllocError> {
-        Ok(Exit::unchanged(alloc))
-    }
 }
 
-/// The procedure with the body of the loop at a path in its place. It owes that the loop has a turn. `WrongShape` where no
-/// loop stands there, or its body mentions its variable; `NotIdempotent` where the body reduces into a buffer from outside,
-/// or reads a buffer from outside, or a field, that it may write, directly, through views, or by calls; `NameTaken` where the
-/// body binds a name that is taken in the block round it.
-pub fn remove_loop(alloc: Global, on: &Target<'_>, at: &Path) -> Result<Proposal, StepError>
-    requires modes { table_says on.now.modes.now ≡ modes_of (program on.now.unit.now) }
-    requires target { IsTarget (target on.now) }
-    ensures answer { Tries plain_proposal (proposed remove_rule (target on.now) at.now) result }
-    ensures kept { IfOk result (λ m. IsKept (target on.now) (plain_proposal m)) }
-    ensures meaning { IfOk result (λ m. KeepsMeaning (target on.now) (plain_proposal m)) }
-    ensures moves { IfOk result (λ m. Moves (target on.now) (plain_proposal m)) }
-{
-    propose(alloc, on, at, &Removing)
+impl OnLoop for Removing {
+    ghost read = { λ o. removable };
+
+    ghost fit = { λ o l. not (in_block (λ x. x == l.binder.id) l.body) };
+
+    ghost make = { λ o l base. l.body };
+
+    ghost owe = { λ o. remove_needs };
+
+    ghost go = { λ o. out_of_loop };
+
+    ghost reads = { λ o. removable_fits };
+
+    ghost is_on_loop = { λ o. refl };
+
+    fn fits(&self, l: &LoopAt<'_>) -> bool {
+        !has_variable(l)
+    }
+
+    fn made(&self, alloc: Global, l: &LoopAt<'_>, _fresh: &mut Fresh) -> Result<Block, AllocError> {
+        l.body.duplicate(alloc)
+    }
+
+    fn needs(&self, alloc: Global, at: &Path, l: &LoopAt<'_>) -> Result<Vec<Need>, AllocError> {
+        let (lo, hi) = copies(alloc, l.lo, l.hi)?;
+        single_need(alloc, at, Fact::Holds(Cond::Lt(lo, hi)))
+    }
+
+    fn moved(&self, alloc: Global, l: &LoopAt<'_>) -> Result<Shifts, AllocError> {
+        all_moved(alloc, l.body, path_below(1), at_index(0))
+    }
 }

@@ -1,5 +1,5 @@
 -- Loops round a piece, as conflicts are asked about them.
-use Rattle.std.proofs.Common.{◌≡◌, ◌&&◌, ◌^◌, Bool, true, false, nat_le, List, map, length, refl, sym, ap, ap₂, ◌∙◌}
+use Rattle.std.proofs.Common.{◌≡◌, ◌&&◌, ◌^◌, Bool, nat_le, List, map, length, sym, ap, ap₂, ◌∙◌}
 use Rattle.std.proofs.lemmas.List.{length-map}
 use Rattle.std.proofs.lemmas.List.Folds.{list_all-map}
 use Rattle.std.proofs.lemmas.Simd.{map-map}
@@ -8,10 +8,10 @@ use Rattle.std.specs.Prelude.{nat_lt}
 use Rattle.exo_effects.specs.Accesses.{plain_form, plain_fits}
 use Rattle.exo_effects.specs.Low.{is_low}
 use Rattle.exo_effects.specs.Orders as orders
-use Rattle.exo_effects.specs.Orders.{Header, turn_of}
+use Rattle.exo_effects.specs.Orders.{Header, turn_of, header_fits}
 use Rattle.exo_conflicts.specs.PlainCopies.{plain_turn, turn_fits, turn_is_low}
 use Rattle.exo_conflicts.specs.declared.twin.Turn.{Turn}
-use Rattle.step_rules.specs.Owing.{header_fits, header_is_low}
+use Rattle.step_rules.specs.Owing.{header_is_low}
 use Rattle.step_needs.specs.Conflicts.{Loop, loop_of, turn_loop}
 use Rattle.step_needs.specs.PlainNeed.{plain_header}
 use Rattle.step_needs.specs.declared.conflict.Header as declared
@@ -53,11 +53,3 @@ module _ (ts : List Turn) (hs : List Header) (e : map turn_loop ts ≡ map loop_
 
       lengths : length ts ≡ length hs
       lengths = sym (length-map ts turn_loop) ∙ ap length e ∙ length-map hs loop_of
-
--- four tests, two by two
-pub crossed : (a b c d : Bool) → ((a && c) && (b && d)) ≡ ((a && b) && (c && d))
-crossed false b c d = refl
-crossed true false false d = refl
-crossed true false true d = refl
-crossed true true false d = refl
-crossed true true true d = refl

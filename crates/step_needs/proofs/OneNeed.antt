@@ -29,7 +29,8 @@ use Rattle.cursor_forward.specs.declared.proposal.StepError.{StepError}
 use Rattle.cursor_forward.specs.declared.proposal.StepError.TheVariants.{Memory}
 use Rattle.step_rules.specs.Rule.{Tried, Not, Target, Need, Says}
 use Rattle.step_rules.specs.Owing.{condition_of, known_for, fact_text, claim_of, owed_for, stated_fault, need_fault}
-use Rattle.step_rules.specs.Owing.{unless_refused, owed_behind}
+use Rattle.step_rules.specs.Owing.{refused, owed_behind}
+use Rattle.effect_laws.specs.Words.{unless_refused}
 use Rattle.step_needs.specs.Outcomes.{IsCause, RefusedBy, Tries}
 use Rattle.text_show.specs.Words.{words_of}
 use Rattle.step_needs.specs.Owing.{cause_for, Puts, PutsAll, said, text_by}
@@ -211,13 +212,14 @@ same_context u p a b same = (
 
 module _ (t : Target) where
   goes_on : (fault : Option FormFault) (within : Bool) (rest : Tried (List Owed))
-      → cause_for fault within ≡ None → unless_refused t fault within rest ≡ rest
+      → cause_for fault within ≡ None → unless_refused refused TooManySystems fault within rest ≡ rest
   goes_on (Some f) within rest h = cc
   goes_on None true rest h = refl
   goes_on None false rest h = cc
 
   stops : (fault : Option FormFault) (within : Bool) (rest : Tried (List Owed)) (why : Option Cause)
-      → IsCause (cause_for fault within) why → RefusedBy (unless_refused t fault within rest) why
+      → IsCause (cause_for fault within) why
+      → RefusedBy (unless_refused refused TooManySystems fault within rest) why
   stops fault within rest None h = tt
   stops (Some f) within rest (Some cause) h = let same : Form f ≡ cause = cc in ap Not same
   stops None true rest (Some cause) h = cc

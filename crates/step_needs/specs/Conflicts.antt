@@ -1,16 +1,15 @@
 -- What the calls on conflicts answer.
-use Rattle.std.specs.Prelude.{ℕ, Bool, ◌&&◌}
+use Rattle.std.specs.Prelude.{ℕ}
 use Rattle.exo_tree.specs.Tree.{Control}
 use Rattle.exo_tree.specs.Places.{Path}
 use Rattle.exo_tree.specs.PlainControl.{control}
-use Rattle.check_facts.specs.Contexts.{context_of}
-use Rattle.exo_effects.specs.Accesses.{accesses_of, accesses_fit}
+use Rattle.check_facts.specs.Contexts.{context_of, context_fits}
+use Rattle.exo_effects.specs.Accesses.{accesses_of}
 use Rattle.exo_effects.specs.Conflicts.{Listing, conflicts_of}
 use Rattle.exo_effects.specs.Orders.{Header, Order}
 use Rattle.exo_conflicts.specs.declared.twin.Turn.{Turn}
 use Rattle.effect_laws.specs.Apart.{Conflict}
 use Rattle.step_rules.specs.Rule.{Target}
-use Rattle.step_rules.specs.Owing.{turns_fit}
 
 -- a loop, by the number of its variable and by its ends
 pub record Loop : Type 0 where
@@ -29,19 +28,9 @@ turn_loop t = record {
 }
 
 module _ (t : Target) (k : Conflict) where
-  -- all normal forms of the accesses of both pieces can be written down
-  abbrev pub pieces_fit : Bool
-  pieces_fit =
-      accesses_fit t.unit t.proc k.first.path k.first.count
-      && accesses_fit t.unit t.proc k.second.path k.second.count
-
-  -- and so can those of the loops
-  abbrev pub conflict_fits : Bool
-  conflict_fits = turns_fit t k.first && turns_fit t k.second
-
   -- what both pieces owe in the context of a place, with loops in this order
   abbrev pub listing_at : Path → Order → Path → Listing
   listing_at place order path =
-      conflicts_of (context_of t.unit t.proc place) order path
+      conflicts_of (context_fits t.unit t.proc place) (context_of t.unit t.proc place) order path
       (accesses_of t.unit t.proc k.first.path k.first.count)
       (accesses_of t.unit t.proc k.second.path k.second.count)

@@ -1,11 +1,12 @@
 -- What the calls on needs answer.
-use Rattle.std.specs.Prelude.{◌≡◌, ℕ, Bool, true, false, List, ◌++◌, codes, Option, Some, None}
+use Rattle.std.specs.Prelude.{◌≡◌, ℕ, Bool, List, ◌++◌, codes, Option, Some, None}
 use Rattle.std.specs.Prelude.{Result, MatchResult}
 use Rattle.exo_tree.specs.Tree.{Procedure, Program}
 use Rattle.meaning_laws.specs.Facts.{Fact, Holds, Fails}
 use Rattle.affine_forms.specs.Formulas.{Formula, negation, condition_keeps_rules}
 use Rattle.affine_systems.specs.Limits.{are_within}
 use Rattle.affine_systems.specs.Outcomes.{Owed}
+use Rattle.effect_laws.specs.Words.{unless_refused}
 use Rattle.text_show.specs.Layout.{Text}
 use Rattle.text_show.specs.Words.{Words}
 use Rattle.text_show.specs.ControlText.{condition_text}
@@ -44,14 +45,9 @@ is_affine (Apart path k) = conflict_is_low k
 
 -- ---- refusals
 
-abbrev pub limit_passed : Bool → Option Cause
-limit_passed true = None
-limit_passed false = Some (Form TooManySystems)
-
 -- why a need is refused, behind what is owed already
 abbrev pub cause_for : Option FormFault → Bool → Option Cause
-cause_for (Some fault) within = Some (Form fault)
-cause_for None within = limit_passed within
+cause_for fault within = unless_refused (λ f. Some (Form f)) TooManySystems fault within None
 
 -- ---- what comes of needs
 

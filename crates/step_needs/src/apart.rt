@@ -1,15 +1,15 @@
 //! What conflicts owe, as systems in the contexts of their places.
-ghost use Rattle.std.specs.Prelude.{◌≡◌, ◌&&◌, IsTrue, map, IfOk};
+ghost use Rattle.std.specs.Prelude.{◌≡◌, IsTrue, map, IfOk};
 ghost use Rattle.exo_tree.specs.PlainProcedure.{procedure};
 ghost use Rattle.exo_tree.specs.PlainUnit.{program};
 ghost use Rattle.exo_modes.specs.Marks.{modes_of};
 ghost use Rattle.exo_modes.specs.Seen.{table_says};
 ghost use Rattle.exo_effects.specs.Orders.{order_of};
-ghost use Rattle.exo_conflicts.specs.Outcomes.{order_is_low, order_fits, Conflicting};
+ghost use Rattle.exo_conflicts.specs.Outcomes.{order_is_low, IsListed};
 ghost use Rattle.exo_conflicts.specs.PlainCopies.{plain_order};
 ghost use Rattle.step_rules.specs.Rule as rule;
 ghost use Rattle.step_rules.specs.Owing.{conflict_is_low};
-ghost use Rattle.step_needs.specs.Conflicts.{loop_of, turn_loop, pieces_fit, conflict_fits, listing_at};
+ghost use Rattle.step_needs.specs.Conflicts.{loop_of, turn_loop, listing_at};
 ghost use Rattle.step_needs.specs.Owing.{Puts, Numbered, target_in};
 ghost use Rattle.step_needs.specs.PlainNeed.{plain_header, plain_conflict};
 ghost use Rattle.step_needs.specs.Sites.{IsSite, IsWell, seen};
@@ -18,7 +18,6 @@ use crate::conflict::{Conflict, Header};
 use crate::site::{Site, place_in};
 use affine_forms::FormError;
 use affine_systems::{Obligation, OwedList};
-use check_facts::Cursor;
 use cursor_forward::StepError;
 use effect_bounds::laws::{accesses_are_low, contexts_are_low};
 use exo_conflicts::{Order, Standing, Turn, conflicts};
@@ -54,8 +53,7 @@ fn listed(
     requires modes { table_says modes.now ≡ modes_of (program at.now.unit.now) }
     requires well { IsWell (program at.now.unit.now, procedure at.now.proc.now) }
     requires low { IsTrue (order_is_low order.now) }
-    ensures { (n : Numbered) → Conflicting result (order_fits order.now && pieces_fit (target_in (program at.now.unit.now, procedure at.now.proc.now) n) (plain_conflict k.now))
-        (listing_at (target_in (program at.now.unit.now, procedure at.now.proc.now) n) (plain_conflict k.now) at.now.path.now (plain_order order.now) path.now) }
+    ensures { (n : Numbered) → IsListed result (listing_at (target_in (program at.now.unit.now, procedure at.now.proc.now) n) (plain_conflict k.now) at.now.path.now (plain_order order.now) path.now) }
 {
     contexts_are_low();
     accesses_are_low();
@@ -82,8 +80,7 @@ fn owed_at(
     requires modes { table_says modes.now ≡ modes_of (program at.now.unit.now) }
     requires well { IsWell (program at.now.unit.now, procedure at.now.proc.now) }
     requires low { IsTrue (conflict_is_low (plain_conflict k.now)) }
-    ensures { (n : Numbered) → Conflicting result (conflict_fits (target_in (program at.now.unit.now, procedure at.now.proc.now) n) (plain_conflict k.now))
-        (listing_at (target_in (program at.now.unit.now, procedure at.now.proc.now) n) (plain_conflict k.now) at.now.path.now (order_of (plain_conflict k.now).first.loops (plain_conflict k.now).second.loops (plain_conflict k.now).order) path.now) }
+    ensures { (n : Numbered) → IsListed result (listing_at (target_in (program at.now.unit.now, procedure at.now.proc.now) n) (plain_conflict k.now) at.now.path.now (order_of (plain_conflict k.now).first.loops (plain_conflict k.now).second.loops (plain_conflict k.now).order) path.now) }
 {
     let first = turns_of(alloc, &k.first.loops)?;
     let second = turns_of(alloc, &k.second.loops)?;
@@ -99,20 +96,15 @@ fn owed_at(
 pub(crate) fn put_apart(
     alloc: Global,
     site: &Site<'_, '_>,
-    cursor: &mut Cursor<'_, '_>,
     path: &Path,
     k: &Conflict,
     out: &mut OwedList,
 ) -> Result<(), StepError>
     requires site { IsSite site.now }
-    requires cursor { cursor.old ≡ seen site.now }
     requires low { IsTrue (conflict_is_low (plain_conflict k.now)) }
-    ensures puts { (n : Numbered) (m : rule.Need) → m ≡ rule.Apart path.now (plain_conflict k.now) → Puts result (target_in (seen site.now) n) m out.old out.new }
-    ensures same { cursor.new ≡ cursor.old }
+    ensures { (n : Numbered) (m : rule.Need) → m ≡ rule.Apart path.now (plain_conflict k.now) → Puts result (target_in (seen site.now) n) m out.old out.new }
 {
     let place = place_in(site.proc, path);
-    // whether its context can be written down
-    cursor.at(alloc, &place)?;
     let standing = Standing {
         unit: site.unit,
         proc: site.proc,

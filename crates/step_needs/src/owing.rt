@@ -102,7 +102,7 @@ fn put_need(
 {
     match need {
         Need::Says(path, fact) => put_fact(alloc, site, cursor, path, fact, out),
-        Need::Apart(path, k) => put_apart(alloc, site, cursor, path, k, out),
+        Need::Apart(path, k) => put_apart(alloc, site, path, k, out),
     }
 }
 

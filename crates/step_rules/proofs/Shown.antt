@@ -1,7 +1,6 @@
 -- What a need says holds where nothing that is owed for it has an integer point.
 use Rattle.std.proofs.Common.{◌≡◌, Bool, true, false, List, [], ◌∷◌, ◌++◌, All, suc, map, refl}
-use Rattle.std.proofs.Common.{not, sym, ◌∙◌, subst, arith, Option, Some, None, ◌&&◌}
-use Rattle.std.proofs.Common.{if◌then◌else◌}
+use Rattle.std.proofs.Common.{not, sym, ◌∙◌, subst, arith, Option, Some, None}
 use Rattle.std.specs.List.{AllByRecursion}
 use Rattle.exo_tree.specs.Places.{Path, opened}
 use Rattle.exo_meaning.specs.State.{State}
@@ -17,13 +16,13 @@ use Rattle.affine_systems.specs.Outcomes.{Owed, owed}
 use Rattle.affine_systems.specs.Laws.{ShownLaw}
 use Rattle.affine_systems.proofs.Cases.{negation_met}
 use Rattle.effect_laws.specs.Apart.{Conflict, conflict_listing, are_shown_apart, ApartIsMet}
-use Rattle.effect_laws.specs.Words.{context_of, context_fits, ComesToPlace, ContextsHold}
-use Rattle.effect_laws.specs.Words.{allowed_in, are_within, Listing, Lists, Refuses}
-use Rattle.cursor_forward.specs.Causes.{FormFault, WideNumber}
+use Rattle.effect_laws.specs.Words.{context_of, ComesToPlace, ContextsHold}
+use Rattle.effect_laws.specs.Words.{allowed_in, are_within, unless_refused, Listing, Lists, Refuses}
+use Rattle.cursor_forward.specs.Causes.{FormFault, TooManySystems}
 use Rattle.step_rules.specs.Rule.{Tried, Got, Target, Need, Says, Apart}
 use Rattle.step_rules.specs.Owing.{condition_of, claim_of, owed_for, need_fault}
-use Rattle.step_rules.specs.Owing.{fact_text, unless_refused, owed_behind, findings_of_need}
-use Rattle.step_rules.specs.Owing.{findings_of_needs, listed, listing_fault, turns_fit}
+use Rattle.step_rules.specs.Owing.{fact_text, refused, owed_behind, findings_of_need}
+use Rattle.step_rules.specs.Owing.{findings_of_needs, listed, listing_fault}
 use Rattle.step_rules.specs.Lawful.{IsMet, MayRunIn}
 use Rattle.step_rules.specs.Laws.{NeedsHold}
 use Rattle.step_rules.proofs.Formed.{HasShape, shape_parts}
@@ -89,15 +88,12 @@ conflict_shown : (t : Target) (path : Path) (k : Conflict)
     → need_fault t (Apart path k) ≡ None → Each IsClosed (owed_for t (Apart path k))
     → are_shown_apart t.unit t.proc path k
 conflict_shown t path k faultless closed =
-    by (context_fits t.unit t.proc path && (turns_fit t k.first && turns_fit t k.second))
-    (conflict_listing t.unit t.proc path k) refl faultless closed
+    by (conflict_listing t.unit t.proc path k) refl faultless closed
   where
-    by : (fits : Bool) (l : Listing) → conflict_listing t.unit t.proc path k ≡ l
-        → (if fits then listing_fault l else Some WideNumber) ≡ None → Each IsClosed (listed l)
-        → are_shown_apart t.unit t.proc path k
-    by true (Lists os) same none shown = (os, same, shown)
-    by true (Refuses fault) same none shown = cc
-    by false l same none shown = cc
+    by : (l : Listing) → conflict_listing t.unit t.proc path k ≡ l → listing_fault l ≡ None
+        → Each IsClosed (listed l) → are_shown_apart t.unit t.proc path k
+    by (Lists os) same none shown = (os, same, shown)
+    by (Refuses fault) same none shown = cc
 
 -- ---- all needs
 
@@ -123,7 +119,7 @@ module _ (context_law : ContextsHold) (shown_law : ShownLaw) (apart_law : ApartI
 module _ (t : Target) where
   goes_on : (fault : Option FormFault) (within : Bool) (rest : Tried (List Owed))
       (must : List Owed)
-      → unless_refused t fault within rest ≡ Got must
+      → unless_refused refused TooManySystems fault within rest ≡ Got must
       → (fault ≡ None) × (rest ≡ Got must)
   goes_on (Some f) within rest must h = cc
   goes_on None true rest must h = (refl, h)

@@ -17,9 +17,9 @@ use Rattle.text_show.specs.Words.{words_of}
 use Rattle.text_show.specs.ControlText.{condition_text}
 use Rattle.effect_laws.specs.Apart.{Turns, Conflict, conflict_listing}
 use Rattle.effect_laws.specs.Words.{fact_formula, fact_fits, context_of, context_fits}
-use Rattle.effect_laws.specs.Words.{known_at_place, are_within, plain_fits, accesses_fit}
+use Rattle.effect_laws.specs.Words.{known_at_place, are_within, unless_refused}
 use Rattle.effect_laws.specs.Words.{is_low, Header}
-use Rattle.effect_laws.specs.Words.{Fault, ManyCases, LargeSystem, ManySystems}
+use Rattle.effect_laws.specs.Words.{Fault, WideForm, ManyCases, LargeSystem, ManySystems}
 use Rattle.effect_laws.specs.Words.{Listing, Lists, Refuses}
 use Rattle.tree_rules.specs.declared.findings.Findings.{Findings}
 use Rattle.tree_rules.specs.Classes.{fine, all_of}
@@ -43,6 +43,7 @@ listed (Lists os) = os
 listed (Refuses fault) = []
 
 abbrev pub fault_of : Fault → FormFault
+fault_of WideForm = WideNumber
 fault_of ManyCases = TooManyCases
 fault_of LargeSystem = SystemTooLarge
 fault_of ManySystems = TooManySystems
@@ -50,10 +51,6 @@ fault_of ManySystems = TooManySystems
 abbrev pub listing_fault : Listing → Option FormFault
 listing_fault (Lists os) = None
 listing_fault (Refuses fault) = Some (fault_of fault)
-
--- the normal forms of both ends of a loop can be written down
-abbrev pub header_fits : Header → Bool
-header_fits h = plain_fits h.lo && plain_fits h.hi
 
 -- its variable is below 2^31, and its ends are affine over such variables
 abbrev pub header_is_low : Header → Bool
@@ -69,6 +66,9 @@ conflict_is_low k = turns_are_low k.first && turns_are_low k.second
 -- nothing owed has an integer point
 abbrev pub AreShown : List Owed → Type 0
 AreShown os = All (λ o. HasNoIntegerPoint o.system) os
+
+abbrev pub refused : FormFault → Tried (List Owed)
+refused fault = Not (Form fault)
 
 module _ (t : Target) where
   -- what is known of configuration fields there
@@ -98,26 +98,14 @@ module _ (t : Target) where
   stated_fault SizePassed = Some SystemTooLarge
   stated_fault (Listed ss) = None
 
-  -- all normal forms of a piece and of the loops round it can be written down
-  abbrev pub turns_fit : Turns → Bool
-  turns_fit k = list_all header_fits k.loops && accesses_fit t.unit t.proc k.path k.count
-
-  -- first its forms, then its cases, then the size of its systems
+  -- of a fact first its forms, then its cases, then the size of its systems; of pieces that do not
+  -- meet so pair by pair
   abbrev pub need_fault : Need → Option FormFault
   need_fault (Says path fact) =
       if context_fits t.unit t.proc path && fact_fits t.unit t.proc (known_for path) fact
       then stated_fault (stated (context_of t.unit t.proc path) (claim_of path fact))
       else Some WideNumber
-  need_fault (Apart path k) =
-      if context_fits t.unit t.proc path && (turns_fit k.first && turns_fit k.second)
-      then listing_fault (conflict_listing t.unit t.proc path k)
-      else Some WideNumber
-
-  -- goes on where there is no fault and what is owed so far is within the limits
-  abbrev pub unless_refused : {T : Type 0} → Option FormFault → Bool → Tried T → Tried T
-  unless_refused (Some fault) within rest = Not (Form fault)
-  unless_refused None true rest = rest
-  unless_refused None false rest = Not (Form TooManySystems)
+  need_fault (Apart path k) = listing_fault (conflict_listing t.unit t.proc path k)
 
   -- ---- all of them
 
@@ -125,8 +113,8 @@ module _ (t : Target) where
   abbrev pub owed_behind : List Owed → List Need → Tried (List Owed)
   owed_behind os [] = Got os
   owed_behind os (n ∷ ns) =
-      unless_refused (need_fault n) (are_within (os ++ owed_for n)) (
-      owed_behind (os ++ owed_for n) ns)
+      let more = os ++ owed_for n in
+      unless_refused refused TooManySystems (need_fault n) (are_within more) (owed_behind more ns)
 
   abbrev pub owed_needs : List Need → Tried (List Owed)
   owed_needs needs = owed_behind [] needs

@@ -1,8 +1,10 @@
-//! Whether trees mention names.
+//! Whether trees mention names, and what follows some statements.
 #![tactic(auto)]
 
 mod after;
 mod mentions;
+mod rest;
 
-pub use after::is_mentioned_after;
-pub use mentions::{Names, in_argument, in_block};
+pub use after::{is_mentioned_after, rest_after};
+pub use mentions::{Names, in_argument, in_block, in_control, in_coords};
+pub use rest::RestAt;

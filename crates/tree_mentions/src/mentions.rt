@@ -20,7 +20,8 @@ pub trait Names {
         ensures { result ≡ names self.now x.0 };
 }
 
-fn in_control<N: Names>(names: &N, e: &Ctrl) -> bool
+/// Whether an expression mentions one of the names.
+pub fn in_control<N: Names>(names: &N, e: &Ctrl) -> bool
     ensures { result ≡ plain.in_control (N.names names.now) (control e.now) }
 {
     match e {
@@ -81,7 +82,8 @@ fn in_datum<N: Names>(names: &N, e: &DataExpr) -> bool
     }
 }
 
-fn in_coords<N: Names>(names: &N, coords: &[Coord]) -> bool
+/// Whether coordinates mention one of the names.
+pub fn in_coords<N: Names>(names: &N, coords: &[Coord]) -> bool
     ensures { result ≡ plain.in_coords (N.names names.now) (map coordinate coords.now) }
 {
     match coords.split_first() {

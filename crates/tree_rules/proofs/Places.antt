@@ -1,18 +1,20 @@
 -- The names in scope at a place, a step of its path at a time.
-use Rattle.std.proofs.Common.{◌≡◌, ℕ, zero, suc, ◌≤◌, List, [], ◌∷◌, length, take, drop, Option, Some, None, refl, ap, sym, ◌∙◌}
+use Rattle.std.proofs.Common.{◌≡◌, ℕ, zero, suc, ◌≤◌, min, Bool, List, [], ◌∷◌, length, map, take, drop, Option, Some, None, refl, ap, sym, ◌∙◌}
 use Rattle.std.proofs.Common.{subst, arith}
 use Rattle.std.proofs.Common.{◌⊎◌, inl, inr}
-use Rattle.std.specs.Prelude.{slice_get, option_and_then, IfSome, IsSome}
+use Rattle.std.proofs.lemmas.List.{take_min}
+use Rattle.std.specs.Prelude.{slice_get, option_map}
 use Rattle.exo_tree.specs.Tree.{Statement, If, For, Block, end, next, block, Binder, Control, Condition}
 use Rattle.exo_tree.specs.Context.{Context, After, InLoop, InThen, InElse}
 use Rattle.exo_tree.specs.Places.{Branch, Main, Else, Step, Path, Opened, parted, past, into, opened_in, opened}
-use Rattle.exo_tree.specs.Places.{from_body, first_of, statement_at}
+use Rattle.exo_tree.specs.Places.{from_body}
 use Rattle.exo_tree.proofs.Openings.{around_by, with_rest}
 use Rattle.exo_meaning.specs.Units.{Scope, scope_after, with_name, ControlName}
 use Rattle.exo_tree.specs.Tree.{Index}
 use Rattle.meaning_laws.specs.Sorted.{scope_at, scope_there}
 use Rattle.exo_tree.specs.Tree.{Procedure}
 use Rattle.exo_meaning.specs.Units.{scope_of}
+use Rattle.made_trees.specs.Passes.{is_alone}
 use Rattle.tree_rules.specs.Placed.{scope_behind_all, IsScopeAt, IsScopeIn}
 
 -- one statement more
@@ -56,48 +58,70 @@ nothing_in Else f outer inner = tt
 
 -- ---- by what the code has found of the first step
 
--- the path leads behind the block
-pub beyond_all : (s : Step) (path rest : Path) (ss : List Statement) (outer inner : Scope)
-    → path ≡ s ∷ rest → length ss ≤ s.index → IsScopeAt (opened_in 1 path (block ss)) outer inner
-beyond_all s path [] ss outer inner e l =
-    subst (λ (p : Path). IsScopeAt (opened_in 1 p (block ss)) outer inner) (sym e)
-    (past_none (λ c. with_rest (parted 1 c)) s.index ss outer inner tt l)
-beyond_all s path (t ∷ rest) ss outer inner e l =
-    subst (λ (p : Path). IsScopeAt (opened_in 1 p (block ss)) outer inner) (sym e)
-    (past_none (into t.branch (opened_in 1 (t ∷ rest))) s.index ss outer inner
-    (nothing_in t.branch (opened_in 1 (t ∷ rest)) (scope_behind_all ss outer) inner) l)
+pub no_step : {X : Type 0} (f : X → Step) (count : ℕ) (xs : List X) (b : Block) (outer inner : Scope)
+    → length xs ≡ 0 → IsScopeAt (opened_in count (map f xs) b) outer inner
+no_step f count [] b outer inner h = tt
+no_step f count (x ∷ xs) b outer inner h = absurd (omega (arith, h))
 
--- it ends here
-pub at_statement : (s : Step) (path rest : Path) (ss : List Statement) (outer inner : Scope)
-    → path ≡ s ∷ rest → slice_get rest 0 ≡ None → inner ≡ scope_behind_all (take s.index ss) outer
-    → IsScopeAt (opened_in 1 path (block ss)) outer inner
-at_statement s path [] ss outer inner e n h =
-    subst (λ (p : Path). IsScopeAt (opened_in 1 p (block ss)) outer inner) (sym e)
-    (past_scope (λ c. with_rest (parted 1 c)) s.index ss outer inner
-    (here (drop s.index ss) (scope_behind_all (take s.index ss) outer) inner h))
-  where
-    here : (xs : List Statement) (outer inner : Scope) → inner ≡ outer
-        → IsScopeAt (with_rest (parted 1 (block xs))) outer inner
-    here [] outer inner h = tt
-    here (a ∷ xs) outer inner h = h
-at_statement s path (t ∷ rest) ss outer inner e n h = cc
+-- so many statements, or as many as there are
+take_all : (k n : ℕ) (ss : List Statement) → n ≡ min k (length ss) → take n ss ≡ take k ss
+take_all k n ss h = ap (λ (m : ℕ). take m ss) h ∙ take_min k ss
 
--- it goes on in a statement
-pub below_statement : (s t : Step) (path rest : Path) (ss more : List Statement) (a : Statement) (outer middle inner : Scope)
-    → path ≡ s ∷ rest → slice_get rest 0 ≡ Some t → drop s.index ss ≡ a ∷ more
-    → middle ≡ scope_behind_all (take s.index ss) outer
-    → IsScopeIn t.branch (opened_in 1 rest) a middle inner
-    → IsScopeAt (opened_in 1 path (block ss)) outer inner
-below_statement s t path [] ss more a outer middle inner e n d m h = cc
-below_statement s t path (u ∷ rest) ss more a outer middle inner e n d m h =
-    let same : u ≡ t = cc in
-    subst (λ (p : Path). IsScopeAt (opened_in 1 p (block ss)) outer inner) (sym e)
-    (past_scope (into u.branch (opened_in 1 (u ∷ rest))) s.index ss outer inner
-    (subst (λ (xs : List Statement). IsScopeAt (into u.branch (opened_in 1 (u ∷ rest)) (block xs))
-    (scope_behind_all (take s.index ss) outer) inner) (sym d)
-    (subst (λ (sc : Scope). IsScopeAt (into u.branch (opened_in 1 (u ∷ rest)) (next a (block more))) sc inner) m
-    (subst (λ (b : Branch). IsScopeAt (into b (opened_in 1 (u ∷ rest)) (next a (block more))) middle inner)
-    (ap (λ (v : Step). v.branch) (sym same)) (h (block more))))))
+module _ (count : ℕ) (s : Step) (path rest : Path) (ss : List Statement) (outer : Scope) (e : path ≡ s ∷ rest) where
+  -- it ends here
+  pub at_statement : (n : ℕ) (inner : Scope) → slice_get rest 0 ≡ None → n ≡ min s.index (length ss)
+      → inner ≡ scope_behind_all (take n ss) outer
+      → IsScopeAt (opened_in count path (block ss)) outer inner
+  at_statement n inner none m h = by rest e none
+    where
+      here : (x : Option (Block × Block)) (out inner : Scope) → inner ≡ out → IsScopeAt (with_rest x) out inner
+      here None out inner h = tt
+      here (Some p) out inner h = h
+
+      by : (rest : Path) → path ≡ s ∷ rest → slice_get rest 0 ≡ None
+          → IsScopeAt (opened_in count path (block ss)) outer inner
+      by [] e none =
+          subst (λ (p : Path). IsScopeAt (opened_in count p (block ss)) outer inner) (sym e)
+          (past_scope (λ c. with_rest (parted count c)) s.index ss outer inner
+          (here (parted count (block (drop s.index ss))) (scope_behind_all (take s.index ss) outer) inner
+          (h ∙ ap (λ (xs : List Statement). scope_behind_all xs outer) (take_all s.index n ss m))))
+      by (t ∷ rest) e none = cc
+
+  module _ (t : Step) (first : slice_get rest 0 ≡ Some t) where
+    -- the path leads behind the block
+    pub beyond_all : (inner : Scope) → length ss ≤ s.index → IsScopeAt (opened_in count path (block ss)) outer inner
+    beyond_all inner l = by rest e first
+      where
+        by : (rest : Path) → path ≡ s ∷ rest → slice_get rest 0 ≡ Some t
+            → IsScopeAt (opened_in count path (block ss)) outer inner
+        by [] e first = cc
+        by (u ∷ rest) e first =
+            subst (λ (p : Path). IsScopeAt (opened_in count p (block ss)) outer inner) (sym e)
+            (past_none (into u.branch (opened_in count (u ∷ rest))) s.index ss outer inner
+            (nothing_in u.branch (opened_in count (u ∷ rest)) (scope_behind_all ss outer) inner) l)
+
+    -- it goes on in a statement
+    pub below_statement : (n : ℕ) (more : List Statement) (a : Statement) (middle inner : Scope)
+        → drop s.index ss ≡ a ∷ more → n ≡ min s.index (length ss)
+        → middle ≡ scope_behind_all (take n ss) outer
+        → IsScopeIn t.branch (opened_in count rest) a middle inner
+        → IsScopeAt (opened_in count path (block ss)) outer inner
+    below_statement n more a middle inner d w m h = by rest e first h
+      where
+        by : (rest : Path) → path ≡ s ∷ rest → slice_get rest 0 ≡ Some t
+            → IsScopeIn t.branch (opened_in count rest) a middle inner
+            → IsScopeAt (opened_in count path (block ss)) outer inner
+        by [] e first h = cc
+        by (u ∷ rest) e first h =
+            let same : u ≡ t = cc in
+            let at = m ∙ ap (λ (xs : List Statement). scope_behind_all xs outer) (take_all s.index n ss w) in
+            subst (λ (p : Path). IsScopeAt (opened_in count p (block ss)) outer inner) (sym e)
+            (past_scope (into u.branch (opened_in count (u ∷ rest))) s.index ss outer inner
+            (subst (λ (xs : List Statement). IsScopeAt (into u.branch (opened_in count (u ∷ rest)) (block xs))
+            (scope_behind_all (take s.index ss) outer) inner) (sym d)
+            (subst (λ (sc : Scope). IsScopeAt (into u.branch (opened_in count (u ∷ rest)) (next a (block more))) sc inner) at
+            (subst (λ (b : Branch). IsScopeAt (into b (opened_in count (u ∷ rest)) (next a (block more))) middle inner)
+            (ap (λ (v : Step). v.branch) (sym same)) (h (block more))))))
 
 -- ---- branches
 
@@ -119,82 +143,41 @@ in_else f c a b outer inner h rest =
 
 -- ---- procedures
 
-abbrev HasOne : Option Opened → Type 0
-HasOne x = IfSome x (λ (o : Opened). IsSome (first_of o.piece))
-
-one_around : (g : Context → Context) (x : Option Opened) → HasOne x → HasOne (around_by g x)
-one_around g None h = tt
-one_around g (Some o) h = h
-
-one_past : (f : Block → Option Opened) → ((c : Block) → HasOne (f c)) → (k : ℕ) (b : Block) → HasOne (past k f b)
-one_past f h zero b = h b
-one_past f h (suc k) end = tt
-one_past f h (suc k) (next a b) = one_around (After a) (past k f b) (one_past f h k b)
-
-one_into : (f : Block → Option Opened) → ((c : Block) → HasOne (f c)) → (which : Branch) (b : Block)
-    → HasOne (into which f b)
-one_into f h Main (next (For i lo hi b) rest) = one_around (λ o. InLoop i lo hi o rest) (f b) (h b)
-one_into f h Main (next (If c a b) rest) = one_around (λ o. InThen c o b rest) (f a) (h a)
-one_into f h Else (next (If c a b) rest) = one_around (λ o. InElse c a o rest) (f b) (h b)
-one_into f h _ b = tt
-
-one_first : (b : Block) → HasOne (with_rest (parted 1 b))
-one_first end = tt
-one_first (next a b) = refl
-
-one_in : (path : Path) (b : Block) → HasOne (opened_in 1 path b)
-one_in [] b = tt
-one_in (s ∷ []) b = one_past (λ c. with_rest (parted 1 c)) one_first s.index b
-one_in (s ∷ t ∷ path) b =
-    one_past (into t.branch (opened_in 1 (t ∷ path)))
-    (one_into (opened_in 1 (t ∷ path)) (one_in (t ∷ path)) t.branch) s.index b
-
 -- a place of a procedure is one of its body
-abbrev IsOfBody : Path → Option Opened → Option Opened → Type 0
-IsOfBody path x inside = (x ≡ None) ⊎ (x ≡ inside)
+abbrev IsOfBody : Option Opened → Option Opened → Type 0
+IsOfBody x inside = (x ≡ None) ⊎ (x ≡ inside)
 
-of_body : (path : Path) (inside : Option Opened) → IsOfBody path (from_body path inside) inside
+of_body : (path : Path) (inside : Option Opened) → IsOfBody (from_body path inside) inside
 of_body [] inside = inl refl
 of_body (s ∷ path) inside = by s.branch
   where
-    by : (which : Branch) → IsOfBody (s ∷ path) (elim which [ Main ↦ inside | Else ↦ None ]) inside
+    by : (which : Branch) → IsOfBody (elim which [ Main ↦ inside | Else ↦ None ]) inside
     by Main = inr refl
     by Else = inl refl
 
-abbrev first_there : Option Opened → Option Statement
-first_there x = option_and_then (λ (o : Opened). first_of o.piece) x
-
-not_there : (x : Option Opened) → HasOne x → first_there x ≡ None → x ≡ None
-not_there None h e = refl
-not_there (Some o) h e = absurd (by (first_of o.piece) h e)
-  where
-    by : (y : Option Statement) → IsSome y → y ≡ None → ⊥
-    by None k d = cc
-    by (Some a) k d = cc
-
-module _ (p : Procedure) (path : Path) where
+module _ (p : Procedure) (path : Path) (count : ℕ) where
   abbrev outermost : Scope
   outermost = scope_of [] p.params
 
-  abbrev inside : Option Opened
-  inside = opened_in 1 path p.body
+  abbrev there : Option Opened
+  there = opened count path p.body
 
-  pub scope_nowhere : None ≡ statement_at path p.body → outermost ≡ scope_there p (opened 1 path p.body)
-  scope_nowhere e = by (opened 1 path p.body) (of_body path inside) (sym e)
-    where
-      by : (x : Option Opened) → IsOfBody path x inside → first_there x ≡ None → outermost ≡ scope_there p x
-      by None k h = refl
-      by (Some o) (inl k) h = cc
-      by (Some o) (inr k) h =
-          let gone : Some o ≡ None =
-          not_there (Some o) (subst HasOne (sym k) (one_in path p.body)) h in
-          cc
+  abbrev tested : Option Opened → Option Bool
+  tested x = option_map (λ (o : Opened). is_alone o.around) x
 
-  pub scope_somewhere : (inner : Scope) (a : Statement) → Some a ≡ statement_at path p.body
-      → IsScopeAt inside outermost inner → inner ≡ scope_there p (opened 1 path p.body)
-  scope_somewhere inner a e at = by (opened 1 path p.body) (of_body path inside) (sym e)
+  pub scope_nowhere : None ≡ tested there → outermost ≡ scope_there p there
+  scope_nowhere e = by there e
     where
-      by : (x : Option Opened) → IsOfBody path x inside → first_there x ≡ Some a → inner ≡ scope_there p x
+      by : (x : Option Opened) → None ≡ tested x → outermost ≡ scope_there p x
+      by None h = refl
+      by (Some o) h = cc
+
+  pub scope_somewhere : (inner : Scope) (alone : Bool) → Some alone ≡ tested there
+      → IsScopeAt (opened_in count path p.body) outermost inner → inner ≡ scope_there p there
+  scope_somewhere inner alone e at = by there (of_body path (opened_in count path p.body)) e
+    where
+      by : (x : Option Opened) → IsOfBody x (opened_in count path p.body) → Some alone ≡ tested x
+          → inner ≡ scope_there p x
       by None k h = cc
       by (Some o) (inl k) h = cc
       by (Some o) (inr k) h = subst (λ (y : Option Opened). IsScopeAt y outermost inner) (sym k) at

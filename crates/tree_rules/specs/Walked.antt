@@ -10,6 +10,7 @@ use Rattle.exo_modes.specs.Aliases.{roots_in}
 use Rattle.exo_modes.specs.Marks.{modes_of, writing}
 use Rattle.exo_modes.specs.Seen.{table_says}
 use Rattle.tree_rules.specs.declared.call.Ground.{Ground}
+use Rattle.tree_rules.specs.declared.place.PlaceScope.{PlaceScope}
 use Rattle.tree_rules.specs.declared.walk.Walk.{Walk}
 use Rattle.tree_rules.specs.Findings.{scope_behind}
 use Rattle.tree_rules.specs.Seen.{scope_in}
@@ -37,6 +38,9 @@ writes_seen g k = writing (modes_at (table_says g.modes.now) k)
 
 abbrev pub walk_scope : Walk → Scope
 walk_scope w = scope_in w.entries.items
+
+abbrev pub place_scope : PlaceScope → Scope
+place_scope s = walk_scope s.walk
 
 abbrev pub walk_roots : Walk → ℕ → ℕ
 walk_roots w = roots_in w.aliases.items

@@ -12,7 +12,7 @@ ghost use Rattle.tree_rules.specs.Seen.{sort_meant};
 ghost use Rattle.tree_rules.specs.Walked.{walk_scope, IsGround, ground_kinds, ground_memories, ground_callees};
 
 use crate::call::Ground;
-use crate::count::{are_below, are_distinct, count, ids_of, is_flat};
+use crate::count::{are_below, are_distinct, count_block, ids_of, is_flat};
 use crate::findings::Findings;
 use crate::scope::Sort;
 use crate::statement::{is_filled, is_short, walk_block};
@@ -47,7 +47,7 @@ pub(crate) fn bind_params<'u>(walk: &mut Walk<'u>, params: &'u [Param]) -> Resul
 fn is_small(b: &Block) -> bool
     ensures { result ≡ found.is_small_body (block b.now) }
 {
-    is_flat(b, 32) && count(b) <= 65536
+    is_flat(b, 32) && count_block(b) <= 65536
 }
 
 /// What is found in the statements of a body under these parameters.

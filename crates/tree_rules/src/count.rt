@@ -15,7 +15,7 @@ use std::alloc::{AllocError, Global};
 
 /// The number of statements of a block, at every depth.
 #[cycle(count)]
-pub(crate) fn count(b: &Block) -> usize
+pub fn count_block(b: &Block) -> usize
     ensures { result ≡ capped_number (nodes_in (block b.now)) }
 {
     count_first(b, b.len())
@@ -40,8 +40,10 @@ fn count_one(s: &Stmt) -> usize
     ensures { result ≡ capped_number (nodes (statement s.now)) }
 {
     match s {
-        Stmt::If(_, a, b) => count(a).saturating_add(count(b)).saturating_add(1),
-        Stmt::For(_, _, _, b) => count(b).saturating_add(1),
+        Stmt::If(_, a, b) => count_block(a)
+            .saturating_add(count_block(b))
+            .saturating_add(1),
+        Stmt::For(_, _, _, b) => count_block(b).saturating_add(1),
         _ => 1,
     }
 }

@@ -15,5 +15,7 @@ mod statement;
 mod walk;
 
 pub use body::{findings_of_body, findings_of_version};
+pub use count::count_block;
 pub use findings::Findings;
-pub use place::findings_of_condition_at;
+pub use place::{PlaceScope, findings_of_condition_at};
+pub use scope::Sort;

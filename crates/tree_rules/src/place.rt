@@ -1,5 +1,5 @@
-//! What is found of a condition at a place of a procedure.
-ghost use Rattle.std.specs.Prelude.{◌≡◌, ◌≤◌, length, map, take, IfOk, OnOk};
+//! The names in scope at a place of a procedure, and what is found of a condition there.
+ghost use Rattle.std.specs.Prelude.{◌≡◌, ◌≤◌, ℕ, length, map, take, IfOk, OnOk};
 ghost use Rattle.exo_tree.specs.Tree.{block};
 ghost use Rattle.exo_tree.specs.Places.{opened, opened_in};
 ghost use Rattle.exo_tree.specs.PlainControl.{condition};
@@ -11,8 +11,8 @@ ghost use Rattle.exo_meaning.specs.Units.{with_both};
 ghost use Rattle.meaning_laws.specs.Sorted as sorted;
 ghost use Rattle.tree_rules.specs.Findings as found;
 ghost use Rattle.tree_rules.specs.Placed.{scope_behind_all, IsScopeAt, IsScopeIn};
-ghost use Rattle.tree_rules.specs.Seen.{sort_meant, scope_in};
-ghost use Rattle.tree_rules.specs.Walked.{walk_scope};
+ghost use Rattle.tree_rules.specs.Seen.{sort_meant, sort_seen, scope_in};
+ghost use Rattle.tree_rules.specs.Walked.{walk_scope, place_scope};
 
 use crate::body::bind_params;
 use crate::expression::{in_condition, spans};
@@ -20,12 +20,14 @@ use crate::findings::Findings;
 use crate::name::{Names, WITH_BOTH};
 use crate::scope::{Entry, Sort, sort_in};
 use crate::walk::Walk;
-use exo_tree::{Block, Branch, Cell, Cond, Coords, Id, Kind, Path, Proc, Step, Stmt, Unit, at};
+use exo_tree::{Block, Branch, Cell, Cond, Coords, Id, Kind, Path, Proc, Step, Stmt, Unit};
 use std::alloc::{AllocError, Global};
+use tree_edits::alone_at;
 
 /// What a view of those coordinates stands for.
 fn view_of(entries: &[Entry], x: Id, coords: &Coords) -> Sort
-    ensures { sort_meant result ≡ units.view_sort (units.sort_in (scope_in entries.now) x.0) (units.spans coords.now) }
+    ensures { sort_meant result
+        ≡ units.view_sort (units.sort_in (scope_in entries.now) x.0) (units.spans coords.now) }
 {
     let rank = spans(coords.as_slice());
     match sort_in(entries, x) {
@@ -37,7 +39,8 @@ fn view_of(entries: &[Entry], x: Id, coords: &Coords) -> Sort
 
 /// Goes over a statement of a block.
 fn pass<'u>(walk: &mut Walk<'u>, s: &'u Stmt) -> Result<(), AllocError>
-    ensures { OnOk result (walk_scope walk.new ≡ units.scope_after (statement s.now) (walk_scope walk.old)) }
+    ensures { OnOk result (walk_scope walk.new
+        ≡ units.scope_after (statement s.now) (walk_scope walk.old)) }
 {
     match s {
         Stmt::Alloc(x, cell, dims, _) => walk.bind(x, Sort::Buffer(*cell, dims.len(), true)),
@@ -61,24 +64,28 @@ fn pass_all<'u>(walk: &mut Walk<'u>, b: &'u Block, to: usize) -> Result<(), Allo
     Ok(())
 }
 
-/// Goes to the statement at a path of a block.
+/// Goes to the statements at a path of a block, however many they are.
 #[cycle(place)]
 #[tactic(auto, using(crate::proofs::Places::beyond_all, crate::proofs::Places::at_statement, crate::proofs::Places::below_statement))]
 fn go<'u>(walk: &mut Walk<'u>, b: &'u Block, path: &[Step]) -> Result<(), AllocError>
-    ensures { OnOk result (IsScopeAt (opened_in 1 (map step_taken path.now) (block b.now)) (walk_scope walk.old) (walk_scope walk.new)) }
+    ensures { (count : ℕ) →
+        OnOk result (IsScopeAt (opened_in count (map step_taken path.now) (block b.now))
+        (walk_scope walk.old) (walk_scope walk.new)) }
 {
     let (step, rest) = match path.split_first() {
         None => return Ok(()),
         Some(parts) => parts,
     };
     let index = step.index as usize;
-    if index >= b.len() {
-        return Ok(());
-    }
-    pass_all(walk, b, index)?;
+    pass_all(walk, b, index.min(b.len()))?;
     match rest.first() {
         None => Ok(()),
-        Some(next) => enter(walk, b.statement(index), next.branch, rest),
+        Some(next) => {
+            if index >= b.len() {
+                return Ok(());
+            }
+            enter(walk, b.statement(index), next.branch, rest)
+        }
     }
 }
 
@@ -91,7 +98,9 @@ fn enter<'u>(
     branch: Branch,
     path: &[Step],
 ) -> Result<(), AllocError>
-    ensures { OnOk result (IsScopeIn (branch_taken branch) (opened_in 1 (map step_taken path.now)) (statement s.now) (walk_scope walk.old) (walk_scope walk.new)) }
+    ensures { (count : ℕ) →
+        OnOk result (IsScopeIn (branch_taken branch) (opened_in count (map step_taken path.now))
+        (statement s.now) (walk_scope walk.old) (walk_scope walk.new)) }
 {
     match s {
         Stmt::If(_, a, b) => match branch {
@@ -109,14 +118,21 @@ fn enter<'u>(
     }
 }
 
-/// The names in scope at a place of a procedure; where no statement has the path, those of its parameters.
+/// The names in scope before `count` statements of a procedure from a path on; where they are not
+/// there, those of its parameters.
 #[tactic(auto, using(crate::proofs::Places::scope_nowhere, crate::proofs::Places::scope_somewhere))]
-fn scope_there<'u>(alloc: Global, p: &'u Proc, path: &Path) -> Result<Walk<'u>, AllocError>
-    ensures { IfOk result (λ w. walk_scope w ≡ sorted.scope_there (procedure p.now) (opened 1 path.now (procedure p.now).body)) }
+fn scope_there<'u>(
+    alloc: Global,
+    p: &'u Proc,
+    path: &Path,
+    count: u32,
+) -> Result<Walk<'u>, AllocError>
+    ensures { IfOk result (λ w. walk_scope w
+        ≡ sorted.scope_there (procedure p.now) (opened count path.now (procedure p.now).body)) }
 {
     let mut walk = Walk::new(alloc);
     bind_params(&mut walk, p.params.as_slice())?;
-    match at(p, path) {
+    match alone_at(&p.body, path, count) {
         None => Ok(walk),
         Some(_) => {
             go(&mut walk, &p.body, path.as_slice())?;
@@ -125,8 +141,40 @@ fn scope_there<'u>(alloc: Global, p: &'u Proc, path: &Path) -> Result<Walk<'u>, 
     }
 }
 
-/// What is found of a condition that may read fields and strides, at a place of a procedure of the unit; where no
-/// statement has the path, before its body.
+/// The names in scope at a place of a procedure.
+#[derive(Drop)]
+pub struct PlaceScope<'u> {
+    walk: Walk<'u>,
+}
+
+impl<'u> PlaceScope<'u> {
+    /// Those before `count` statements from a path on; where they are not there, those of the
+    /// parameters.
+    pub fn before(
+        alloc: Global,
+        p: &'u Proc,
+        path: &Path,
+        count: u32,
+    ) -> Result<PlaceScope<'u>, AllocError>
+        ensures { IfOk result (λ s. place_scope s
+            ≡ sorted.scope_there (procedure p.now)
+            (opened count path.now (procedure p.now).body)) }
+    {
+        Ok(PlaceScope {
+            walk: scope_there(alloc, p, path, count)?,
+        })
+    }
+
+    /// The sort of what a name stands for; None exactly where it is not in scope.
+    pub fn sort(&self, x: Id) -> Option<Sort>
+        ensures { sort_seen result ≡ units.sort_in (place_scope self.now) x.0 }
+    {
+        sort_in(self.walk.entries.as_slice(), x)
+    }
+}
+
+/// What is found of a condition that may read fields and strides, at a place of a procedure of the
+/// unit; where no statement has the path, before its body.
 pub fn findings_of_condition_at<'u>(
     alloc: Global,
     unit: &'u Unit,
@@ -134,9 +182,13 @@ pub fn findings_of_condition_at<'u>(
     path: &Path,
     c: &Cond,
 ) -> Result<Findings, AllocError>
-    ensures { IfOk result (λ f. f ≡ found.findings_of_condition (units.field_kind unit.now.fields) with_both (sorted.scope_there (procedure p.now) (opened 1 path.now (procedure p.now).body)) (condition c.now)) }
+    ensures { IfOk result (λ f. f
+        ≡ found.findings_of_condition (units.field_kind unit.now.fields) with_both
+        (sorted.scope_there (procedure p.now)
+        (opened 1 path.now (procedure p.now).body))
+        (condition c.now)) }
 {
-    let walk = scope_there(alloc, p, path)?;
+    let walk = scope_there(alloc, p, path, 1)?;
     let names = Names {
         fields: &unit.fields,
         entries: walk.entries.as_slice(),

@@ -8,7 +8,7 @@ use exo_tree::{Binder, Cell, Id, Kind};
 
 /// What sort of thing a name stands for.
 #[derive(Clone, Copy)]
-pub(crate) enum Sort {
+pub enum Sort {
     Control(Kind),
     /// A buffer or view with its cell type and rank, and whether it is a whole dense tensor.
     Buffer(Cell, usize, bool),

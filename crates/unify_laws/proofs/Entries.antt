@@ -196,7 +196,7 @@ entry_reads u p c old t there = record {
   strides = λ x k h. stride_read u p c old t there x k (t.scene.views x) refl h;
 }
 
-some_is_seen : (o : Option Seen) → IsSome o → is_seen o ≡ true
+pub some_is_seen : (o : Option Seen) → IsSome o → is_seen o ≡ true
 some_is_seen None h = absurd (true≢false (sym h))
 some_is_seen (Some seen) h = refl
 

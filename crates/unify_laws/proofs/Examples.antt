@@ -34,7 +34,7 @@ abbrev procedure : List Param → Block → Procedure
 procedure params b =
     record { name = codes "f"; params = params; asserts = []; body = b; template = None }
 
-abbrev plain_cells : MemoryKind
+abbrev pub plain_cells : MemoryKind
 plain_cells = record {
   name = codes "DRAM";
   ctype = [];

@@ -47,7 +47,7 @@ got_is true cause b d e = cc
 got_is false cause b d e = cc
 
 -- a well-formed procedure has extents
-rooted_is : (p : Procedure) → has_extents p ≡ true → rooted p ≡ roots_of p
+pub rooted_is : (p : Procedure) → has_extents p ≡ true → rooted p ≡ roots_of p
 rooted_is p h = ap (λ t. if t then roots_of p else no_roots) h
 
 pub simplify_is_lawful : IsLawful simplify_rule

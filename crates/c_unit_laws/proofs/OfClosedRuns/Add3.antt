@@ -17,7 +17,8 @@ use Rattle.c_machine.specs.Machine.{Outcome, Machine}
 use Rattle.c_machine.specs.CRun.{run_file}
 use Rattle.c_lowered.specs.LoweredUnit.{Printing, is_listed, is_used, global_names, lowered}
 use Rattle.c_follows.specs.SameInput.{AreSeparate}
-use Rattle.c_follows.specs.Units.{IsListing, AreLowered, IsSameStart, declared_in}
+use Rattle.c_follows.specs.Grounds.{declared_in}
+use Rattle.c_follows.specs.Units.{IsListing, AreLowered, IsSameStart}
 use Rattle.c_unit_laws.specs.ClosedRuns.Add3.{add3, add3_program, add3_printed, by_argument, four_long, input, layout, object, machine, things, no_templates, Add3Runs}
 use Rattle.c_unit_laws.proofs.OfClosedRuns.Entries.{none_some, some_same, no_number, no_entry, machine_of, one_index}
 
@@ -145,8 +146,11 @@ valid_input = record {
 -- ---- the same beginning
 
 objects_apart : AreSeparate layout input
-objects_apart x y shape other e f same = go (x == 0) (y == 0) (x == 1) (y == 1) refl refl refl refl
+objects_apart x y shape other e f at bt r q alike = go (x == 0) (y == 0) (x == 1) (y == 1) refl refl refl refl
   where
+    same : (layout x).object ≡ (layout y).object
+    same = ap (λ z. z.object) alike
+
     no_buffer : (z : ℕ) (own : Shape) → (z == 0) ≡ false → (z == 1) ≡ false → input.scene.buffers z ≡ Some own → ⊥
     no_buffer z own i j k = none_some (sym (ap (λ u. cond u buffer (cond (z == 1) buffer None)) i ∙ ap (λ u. cond u buffer None) j) ∙ k)
 
@@ -183,7 +187,7 @@ no_field f h = go (is_used add3_program add3_printed f) h
 
 same_start : IsSameStart add3_program add3_printed add3 layout input things machine
 same_start = record {
-  arguments = (record { object = object; thing = refl; begins = refl; there = refl; below = refl; same_cell = refl; size = refl; contents = λ at h. refl }, (record { object = object; thing = refl; begins = refl; there = refl; below = refl; same_cell = refl; size = refl; contents = λ at h. refl }, tt));
+  arguments = (record { object = object; thing = refl; begins = refl; there = refl; below = refl; same_cell = refl; room = omega (arith, ints); few = omega (arith, ints); contents = λ at h. refl }, (record { object = object; thing = refl; begins = refl; there = refl; below = refl; same_cell = refl; room = omega (arith, ints); few = omega (arith, ints); contents = λ at h. refl }, tt));
   fields = λ f h. absurd (no_field f h);
   separate = objects_apart;
 }
@@ -201,7 +205,7 @@ add3_runs = record {
   unit = add3_unit;
   lowered_is = add3_lowered;
   none = refl;
-  does = λ k p text e f c. absurd (no_text k p text e f);
+  does = λ i k w caller p text there at u e t. absurd (no_text k p text e t);
   valid = valid_input;
   start = same_start;
   runs = refl;

@@ -1,10 +1,11 @@
 -- What both runs cite.
-use Rattle.std.proofs.Common.{◌≡◌, ℕ, zero, suc, ℤ, pos, ◌+ℤ◌, ◌≤ℤ◌, int_le, int_lt, Bool, true, false, List, [], ◌∷◌, Some, None, refl, arith, slice_get}
+use Rattle.std.proofs.Common.{◌≡◌, ℕ, zero, suc, ℤ, pos, ◌+ℤ◌, ◌≤ℤ◌, int_le, int_lt, Bool, true, false, ◌&&◌, List, [], ◌∷◌, Some, None, refl, sym, arith, true≢false, slice_get}
 use Rattle.std.proofs.lemmas.Int.{ints}
 use Rattle.std.proofs.lemmas.Bool.{and_parts}
 use Rattle.exo_meaning.specs.Value.{Undefined, Number}
 use Rattle.exo_meaning.specs.Scene.{is_below, where_true}
 use Rattle.exo_meaning.specs.Inputs.{IsIndex}
+use Rattle.c_follows.specs.Simulation.{in_range}
 use Rattle.c_machine.specs.Machine.{Outcome, Done, Fault, NoStore, Machine}
 use Rattle.c_machine.specs.Examples.{bare}
 
@@ -42,3 +43,17 @@ pub one_index : (d : ℤ) (i : List ℤ) → IsIndex (d ∷ []) i → (n : ℤ) 
 one_index d [] h = absurd (none_some h)
 one_index d (n ∷ []) h = (n, refl)
 one_index d (n ∷ (m ∷ is)) h = absurd (too_long (is_below n d) h)
+
+-- an index is 0 or 1
+pub one_in_range : (at : List ℤ) → in_range at (pos 2 ∷ []) ≡ true → (n : ℤ) × (at ≡ n ∷ []) × (pos 0 ≤ℤ n) × ((n +ℤ pos 1) ≤ℤ pos 2)
+one_in_range [] h = absurd (true≢false (sym h))
+one_in_range (n ∷ []) h = go (is_below n (pos 2)) refl h
+  where
+    go : (t : Bool) → is_below n (pos 2) ≡ t → (t && true) ≡ true → (m : ℤ) × (n ∷ [] ≡ m ∷ []) × (pos 0 ≤ℤ m) × ((m +ℤ pos 1) ≤ℤ pos 2)
+    go true e k = let p = below n (pos 2) e in (n, refl, p.0, p.1)
+    go false e k = absurd (true≢false (sym k))
+one_in_range (n ∷ (m ∷ at)) h = absurd (go (is_below n (pos 2)) h)
+  where
+    go : (t : Bool) → (t && false) ≡ true → ⊥
+    go true k = true≢false (sym k)
+    go false k = true≢false (sym k)

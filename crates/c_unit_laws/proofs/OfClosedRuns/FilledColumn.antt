@@ -4,7 +4,7 @@ use Rattle.std.specs.Int.{int_wrap}
 use Rattle.std.proofs.lemmas.Int.{ints}
 use Rattle.exo_tree.specs.Tree.{I32, Procedure}
 use Rattle.exo_meaning.specs.Value.{Undefined, Number, wrap}
-use Rattle.exo_meaning.specs.Scene.{Shape, is_below, whole}
+use Rattle.exo_meaning.specs.Scene.{Shape, whole}
 use Rattle.exo_meaning.specs.Orders.{Each}
 use Rattle.exo_meaning.specs.Run.{product, program_world}
 use Rattle.exo_meaning.specs.Inputs.{IsValid, IsBetween, IsIndex, FitsCell, offset, is_buffer_of}
@@ -13,12 +13,13 @@ use Rattle.c_machine.specs.Machine.{Outcome, IsWindow, Machine}
 use Rattle.c_machine.specs.CRun.{run_file}
 use Rattle.c_lowered.specs.LoweredUnit.{is_used, lowered}
 use Rattle.c_lowered.specs.Examples.{fill}
-use Rattle.c_follows.specs.Simulation.{dot, in_range}
+use Rattle.c_follows.specs.Simulation.{dot}
 use Rattle.c_follows.specs.SameInput.{AreSeparate, IsSameWindow}
-use Rattle.c_follows.specs.Units.{IsSameStart, declared_in}
+use Rattle.c_follows.specs.Grounds.{declared_in}
+use Rattle.c_follows.specs.Units.{IsSameStart}
 use Rattle.c_unit_laws.specs.Instance.{column_program, both_printed}
 use Rattle.c_unit_laws.specs.ClosedRuns.FilledColumn.{column, input, layout, machine, things, no_templates, FilledColumn}
-use Rattle.c_unit_laws.proofs.OfClosedRuns.Entries.{none_some, some_same, no_number, no_entry, machine_of, below, one_index}
+use Rattle.c_unit_laws.proofs.OfClosedRuns.Entries.{none_some, some_same, no_number, no_entry, machine_of, one_index, one_in_range}
 
 -- ---- the one buffer, which has the number 1
 
@@ -90,20 +91,6 @@ valid_input = record {
 
 -- ---- the same beginning
 
--- an index is 0 or 1
-one_in_range : (at : List ℤ) → in_range at (pos 2 ∷ []) ≡ true → (n : ℤ) × (at ≡ n ∷ []) × (pos 0 ≤ℤ n) × ((n +ℤ pos 1) ≤ℤ pos 2)
-one_in_range [] h = absurd (true≢false (sym h))
-one_in_range (n ∷ []) h = go (is_below n (pos 2)) refl h
-  where
-    go : (t : Bool) → is_below n (pos 2) ≡ t → (t && true) ≡ true → (m : ℤ) × (n ∷ [] ≡ m ∷ []) × (pos 0 ≤ℤ m) × ((m +ℤ pos 1) ≤ℤ pos 2)
-    go true e k = let p = below n (pos 2) e in (n, refl, p.0, p.1)
-    go false e k = absurd (true≢false (sym k))
-one_in_range (n ∷ (m ∷ at)) h = absurd (go (is_below n (pos 2)) h)
-  where
-    go : (t : Bool) → (t && false) ≡ true → ⊥
-    go true k = true≢false (sym k)
-    go false k = true≢false (sym k)
-
 lies_inside : (n : ℤ) → (n +ℤ pos 1) ≤ℤ pos 2 → ((pos 1 +ℤ ((n *ℤ pos 2) +ℤ pos 0)) +ℤ pos 1) ≤ℤ pos 4
 lies_inside n h = omega (arith, ints, h)
 
@@ -131,7 +118,7 @@ same_window = record {
 }
 
 one_object : AreSeparate layout input
-one_object x y shape other e f same = held x (λ n all. absurd (none_some (sym n ∙ e))) (λ i. held y (λ n all. absurd (none_some (sym n ∙ f))) (λ j. i ∙ sym j))
+one_object x y shape other e f at bt r q one = held x (λ n all. absurd (none_some (sym n ∙ e))) (λ i. held y (λ n all. absurd (none_some (sym n ∙ f))) (λ j. i ∙ sym j))
 
 no_field : (f : ℕ) → declared_in column_program both_printed f ≡ true → ⊥
 no_field f h = go (is_used column_program both_printed f) h
@@ -158,7 +145,7 @@ pub filled_column : FilledColumn
 unfolding is_word int_wrap
 filled_column = record {
   none = refl;
-  does = λ k p text e f c. absurd (no_text k p text e f);
+  does = λ i k w caller p text there at u e t. absurd (no_text k p text e t);
   valid = valid_input;
   start = same_start;
   runs = refl;

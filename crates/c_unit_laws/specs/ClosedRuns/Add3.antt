@@ -16,7 +16,7 @@ use Rattle.c_machine.specs.CRun.{Behaviour, run_file}
 use Rattle.c_lowered.specs.LoweredUnit.{Printing, lowered}
 use Rattle.c_lowered.specs.Examples.{param, printed, dram}
 use Rattle.c_follows.specs.Simulation.{Layout}
-use Rattle.c_follows.specs.Bodies.{TemplatesDoTheirBodies}
+use Rattle.c_follows.specs.Templates.{TemplatesDoTheirBodies}
 use Rattle.c_follows.specs.Units.{AreLowered, IsSameStart}
 use Rattle.c_unit_laws.specs.Stores.{allocates_nothing}
 

@@ -14,7 +14,7 @@ use Rattle.c_machine.specs.CRun.{Behaviour, run_file}
 use Rattle.c_lowered.specs.LoweredUnit.{lowered}
 use Rattle.c_lowered.specs.Examples.{fill}
 use Rattle.c_follows.specs.Simulation.{Layout}
-use Rattle.c_follows.specs.Bodies.{TemplatesDoTheirBodies}
+use Rattle.c_follows.specs.Templates.{TemplatesDoTheirBodies}
 use Rattle.c_follows.specs.Units.{IsSameStart}
 use Rattle.c_unit_laws.specs.Instance.{column_program, both_printed}
 use Rattle.c_unit_laws.specs.Stores.{allocates_nothing}

@@ -9,7 +9,7 @@ use Rattle.exo_meaning.specs.Inputs.{run_procedure}
 use Rattle.exo_meaning.specs.Units.{IsUnit}
 use Rattle.c_lowered.specs.LoweredUnit.{Printing, counts}
 use Rattle.c_lowered.specs.Examples.{printed, dram}
-use Rattle.c_follows.specs.Units.{declared_in}
+use Rattle.c_follows.specs.Grounds.{declared_in}
 
 -- A procedure that is printed, or called by one, leaves each field that the C does not declare as
 -- it was: neither it nor what it calls writes it.

@@ -453,7 +453,7 @@ formed_mentions s b hidden formed none own =
 
 -- ---- free names are not in scope
 
-no_param_in_scope : (ps : List Param) (scope : Scope) (x : ℕ) → is_buffer_of x ps ≡ false
+pub no_param_in_scope : (ps : List Param) (scope : Scope) (x : ℕ) → is_buffer_of x ps ≡ false
     → sort_in (scope_of scope ps) x ≡ sort_in scope x
 no_param_in_scope [] scope x h = refl
 no_param_in_scope (p ∷ ps) scope x h =

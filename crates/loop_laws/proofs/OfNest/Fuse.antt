@@ -26,10 +26,9 @@ use Rattle.meaning_laws.proofs.WellFormed.{well_scoped}
 use Rattle.place_laws.specs.Scope.Roots.{own_roots_at}
 use Rattle.place_laws.specs.Scope.Scopes.{top_binders}
 use Rattle.place_laws.proofs.OfScope.MayLeave.{may_leave_law, top_has}
-use Rattle.affine_places.specs.Agreement.{agree, agreement_fits}
+use Rattle.affine_places.specs.Agreement.{agree}
 use Rattle.affine_places.specs.Readings.{extent_reading}
 use Rattle.made_trees.specs.Passes.{or_pass}
-use Rattle.cursor_forward.specs.Causes.{Form, WideNumber}
 use Rattle.cursor_forward.specs.Shifts.{at_index, alone as alone_at, range}
 use Rattle.cursor_forward.specs.Forwards.{AreCarried, Carries, are_apart}
 use Rattle.place_laws.specs.Order.PartedLoops.{AreUnbound, bound_by, alone, MayFuse}
@@ -38,18 +37,23 @@ use Rattle.place_laws.proofs.OfOrder.PartedLoops.{fuse_law}
 use Rattle.effect_laws.specs.Apart.{IsApartAt}
 use Rattle.effect_laws.specs.Fits.{IsBlockThere, spot_of}
 use Rattle.effect_laws.proofs.Fits.{halves_fit}
-use Rattle.step_rules.specs.Rule.{Got, Not, Simplified, Target, Piece}
+use Rattle.step_rules.specs.Rule.{Tried, Got, Not, Target, Piece}
+use Rattle.step_rules.specs.Answer.{then_try, unless, opened_or_wrong}
+use Rattle.step_rules.specs.Shapes.{tried}
 use Rattle.step_rules.specs.Lawful.{IsMet, Site, IsSite, Stands, IsLawful, IsCarrying, same, around}
 use Rattle.step_rules.specs.Lawful.{old, world_of, callees_for, scope_here}
+use Rattle.step_rules.proofs.Proposals.{unless_got}
 use Rattle.step_rules.proofs.Shapes.{made_of, or_pass_next}
-use Rattle.loop_laws.specs.Shapes.{loop_in, inside}
+use Rattle.loop_laws.specs.Shapes.{loop_in, listed_of, inside}
+use Rattle.loop_laws.specs.Bounds.{bounds_differ}
 use Rattle.loop_laws.proofs.Bones.{same_bones, same_length, all_parted}
 use Rattle.loop_laws.proofs.Sites.{loop_of_is, found_then}
-use Rattle.loop_laws.proofs.UnrollLoop.{same_got}
+use Rattle.loop_laws.proofs.UnrollLoop.{then_got, same_got}
+use Rattle.loop_laws.proofs.Bounds.{bounds_agree}
 use Rattle.loop_laws.specs.Nest.Shapes.{header_of, size, step, in_loop}
-use Rattle.loop_laws.specs.Nest.Fuse.{Two, with_second, two_of, may_agree, bounds_may_agree, bounds_fit}
-use Rattle.loop_laws.specs.Nest.Fuse.{both_are_affine, where_they_agree, two_in, second_body, fused, fuse_conflict}
-use Rattle.loop_laws.specs.Nest.Fuse.{fuse_needs, fuse_shifts, fuse_draft, of_two, fuse_rule}
+use Rattle.loop_laws.specs.Nest.Fuse.{Two, with_second, two_of, both_are_affine, in_variables}
+use Rattle.loop_laws.specs.Nest.Fuse.{where_they_agree, fusing, second_body, fused, fuse_conflict}
+use Rattle.loop_laws.specs.Nest.Fuse.{fuse_needs, fuse_shifts, fuse_rule}
 use Rattle.loop_laws.proofs.OfNest.Bounds.{agreeing_numbers}
 use Rattle.loop_laws.proofs.OfNest.Parted.{behind_parted, second_opened}
 use Rattle.place_laws.specs.Scope.Holes.{behind}
@@ -76,57 +80,44 @@ row_is (next a (next b (next c rest))) p h = cc
 
 pub record IsTwo (b : Block) (p : Two) : Type 0 where
   pub is : b ≡ in_a_row p.first p.second
-  pub may : bounds_may_agree p ≡ true
+  pub lo : agree extent_reading p.first.lo p.second.lo ≡ true
+  pub hi : agree extent_reading p.first.hi p.second.hi ≡ true
 
-two_is : (b : Block) (p : Two) → two_in b ≡ Some p → IsTwo b p
-two_is b p h =
-    let t = found_then (two_of b) where_they_agree p h in
-    by t.0 (both_are_affine t.0 && bounds_may_agree t.0) refl t.2 (row_is b t.0 t.1)
+in_variables_is : (p q : Two) → in_variables p ≡ Some q → p ≡ q
+in_variables_is p q h = by (both_are_affine p) h
   where
-    by : (q : Two) (t : Bool) → (both_are_affine q && bounds_may_agree q) ≡ t
-        → (if t then Some q else None) ≡ Some p → b ≡ in_a_row q.first q.second → IsTwo b p
-    by q true e h is =
-        subst (IsTwo b) (same_some h) (record {
-          is = is;
-          may = (and_parts (both_are_affine q) (bounds_may_agree q) e).1;
-        })
-    by q false e h is = cc
+    by : (t : Bool) → (if t then Some p else None) ≡ Some q → p ≡ q
+    by true h = same_some h
+    by false h = cc
 
--- what is drafted at last, where the forms of the bounds can be written down
+two_is : (b : Block) (p : Two) → fusing b ≡ Got p → IsTwo b p
+two_is b p h =
+    let read = option_and_then in_variables (two_of b) in
+    let t = then_got (tried read (λ q. q)) where_they_agree p h in
+    let m = made_of read (λ q. q) t.0 t.1 in
+    let f = found_then (two_of b) in_variables m.of m.found in
+    let low = unless_got (bounds_differ t.0.first.lo t.0.second.lo)
+    (unless (bounds_differ t.0.first.hi t.0.second.hi) (Got t.0)) p t.2 in
+    let high = unless_got (bounds_differ t.0.first.hi t.0.second.hi) (Got t.0) p low.1 in
+    let all : f.0 ≡ t.0 = in_variables_is f.0 m.of f.2 ∙ m.made in
+    subst (IsTwo b) (same_got high.1) (record {
+      is = row_is b f.0 f.1 ∙ ap (λ (q : Two). in_a_row q.first q.second) all;
+      lo = bounds_agree t.0.first.lo t.0.second.lo low.0;
+      hi = bounds_agree t.0.first.hi t.0.second.hi high.0;
+    })
+
+-- what is drafted
 pub record IsFused (b made : Block) : Type 0 where
   pub of : Two
-  pub found : two_in b ≡ Some of
+  pub found : fusing b ≡ Got of
   pub two : IsTwo b of
-  pub fits : bounds_fit of ≡ true
   pub made_is : fused of ≡ made
 
-pub is_fused : (b made : Block) → fuse_draft Simplified (two_in b) ≡ Got made → IsFused b made
-is_fused b made h = by (two_in b) refl h
-  where
-    by_form : (p : Two) → two_in b ≡ Some p → (t : Bool) → bounds_fit p ≡ t
-        → (if t then Got (fused p) else Not (Form WideNumber)) ≡ Got made → IsFused b made
-    by_form p e true fits h = record {
-      of = p;
-      found = e;
-      two = two_is b p e;
-      fits = fits;
-      made_is = same_got h;
-    }
-    by_form p e false fits h = cc
-
-    by : (o : Option Two) → two_in b ≡ o → fuse_draft Simplified o ≡ Got made → IsFused b made
-    by None e h = cc
-    by (Some p) e h = by_form p e (bounds_fit p) refl h
-
--- bounds that fit and may agree agree
-they_agree : (a b : Control) → agreement_fits extent_reading a b ≡ true → may_agree a b ≡ true
-    → agree extent_reading a b ≡ true
-they_agree a b fits may = by (agreement_fits extent_reading a b) fits may
-  where
-    by : (t : Bool) → t ≡ true → (not t || agree extent_reading a b) ≡ true
-        → agree extent_reading a b ≡ true
-    by true e h = h
-    by false e h = absurd (true≢false (sym e))
+pub is_fused : (b made : Block) → then_try (fusing b) (λ p. Got (fused p)) ≡ Got made
+    → IsFused b made
+is_fused b made h =
+    let t = then_got (fusing b) (λ p. Got (fused p)) made h in
+    record { of = t.0; found = t.1; two = two_is b t.0 t.1; made_is = same_got t.2 }
 
 -- ---- at its place
 
@@ -139,7 +130,7 @@ top_in b x h = by (has_binder b x) refl
     by false e = absurd (true≢false (sym h ∙ top_has b x e))
 
 module _ (a : Site) (is : IsSite fuse_rule a) (p : Two) (two : IsTwo (old a.spot) p)
-    (fits : bounds_fit p ≡ true) (count : a.spot.piece.count ≡ 2) where
+    (count : a.spot.piece.count ≡ 2) where
   abbrev k : Loop
   k = p.first
 
@@ -192,13 +183,9 @@ module _ (a : Site) (is : IsSite fuse_rule a) (p : Two) (two : IsTwo (old a.spot
 
   agrees : (u : State) → AgreesAt u.scene k l
   agrees u =
-      let fields = field_kind t.unit.fields in
-      let f = and_parts (agreement_fits extent_reading k.lo l.lo) _ fits in
-      let m = and_parts (may_agree k.lo l.lo) (may_agree k.hi l.hi) two.may in (
-        agreeing_numbers fields scope u.scene k.lo l.lo first_keeps.lo second_keeps.lo
-            (they_agree k.lo l.lo f.0 m.0),
-        agreeing_numbers fields scope u.scene k.hi l.hi first_keeps.hi second_keeps.hi
-            (they_agree k.hi l.hi f.1 m.1),
+      let fields = field_kind t.unit.fields in (
+        agreeing_numbers fields scope u.scene k.lo l.lo first_keeps.lo second_keeps.lo two.lo,
+        agreeing_numbers fields scope u.scene k.hi l.hi first_keeps.hi second_keeps.hi two.hi,
       )
 
   -- ---- names
@@ -353,21 +340,25 @@ module _ (a : Site) (is : IsSite fuse_rule a) (p : Two) (two : IsTwo (old a.spot
       (size l.body) k l scope root start u apart second_there first_there good
       (comes_there a.spot is.spot at start u come) (agrees u))
 
+count_is : (a : Site) → IsSite fuse_rule a → a.spot.piece.count ≡ 2
+count_is a is =
+    let chosen = λ (p : Two). Got (record { path = is.at; count = 2 }) in
+    let o = then_got (opened_or_wrong (opened 2 is.at a.spot.target.proc.body))
+    (λ (o : Opened). then_try (fusing o.piece) chosen) a.spot.piece is.chosen in
+    let q = then_got (fusing o.0.piece) chosen a.spot.piece o.2 in
+    sym (ap (λ (r : Piece). r.count) (same_got q.2))
+
 pub fuse_is_lawful : IsLawful fuse_rule
 fuse_is_lawful = record {
   replaces = λ a is versions met. (
       let of = is_fused (old a.spot) a.draft is.drafted in
       let p = of.of in
       let needs = subst (λ o. Each (IsMet a.spot.target)
-      (of_two (fuse_needs a.spot.piece.path) o)) of.found met in
-      let chosen =
-      made_of
-      (option_and_then (λ (o : Opened). two_in o.piece) (opened 2 is.at a.spot.target.proc.body))
-      (λ (q : Two). record { path = is.at; count = 2 }) a.spot.piece is.chosen in
-      let count = sym (ap (λ (q : Piece). q.count) chosen.made) in
+      (listed_of (fuse_needs a.spot.piece.path) o)) of.found met in
+      let count = count_is a is in
       same (λ first u good come stands.
       ap (λ b. run (world_of a.spot) b u) of.two.is
-      ∙ fused_same a is p of.two of.fits count needs.0 good come stands
+      ∙ fused_same a is p of.two count needs.0 good come stands
       ∙ ap (λ b. run (world_of a.spot) b u) of.made_is)
       );
 }
@@ -457,12 +448,12 @@ fuse_is_carrying = record {
   carries = λ a is.
       let of = is_fused (old a.spot) a.draft is.drafted in
       let p = of.of in
-      subst (λ o. Carries (of_two fuse_shifts o) (old a.spot) (or_pass (around a.spot) a.draft))
+      subst (λ o. Carries (listed_of fuse_shifts o) (old a.spot) (or_pass (around a.spot) a.draft))
       (sym of.found)
       (subst (λ b. Carries (fuse_shifts p) b (or_pass (around a.spot) a.draft)) (sym of.two.is)
       (subst (λ b. Carries (fuse_shifts p) (in_a_row p.first p.second) (or_pass (around a.spot) b))
       of.made_is (carried p (around a.spot))));
-  apart = λ a is. go (two_in (old a.spot));
+  apart = λ a is. go (fusing (old a.spot));
 }
   where
     apart_of : (m n : ℕ) → are_apart (
@@ -474,6 +465,6 @@ fuse_is_carrying = record {
         let reaches : nat_le (0 + m) m ≡ true = grind arith in
         ap (λ t. ((t || nat_le (m + n) 0) && true) && true) reaches
 
-    go : (o : Option Two) → are_apart (of_two fuse_shifts o) ≡ true
-    go None = refl
-    go (Some p) = apart_of (size p.first.body) (size p.second.body)
+    go : (o : Tried Two) → are_apart (listed_of fuse_shifts o) ≡ true
+    go (Not cause) = refl
+    go (Got p) = apart_of (size p.first.body) (size p.second.body)

@@ -94,24 +94,32 @@ no_loop_next = refl
 abbrev wide_end : Control
 wide_end = Mul (number 2147483647) (Mul (number 2147483647) (number 2147483647))
 
--- for i in seq(lo, 16): x[i] = 1, and then a loop over j from 0 up to the wide end
-abbrev with_wide_end : Control → Block → Procedure
-with_wide_end lo b =
-    procedure params (joined (loop i lo (number 16) ones) (loop j (number 0) wide_end b))
+-- for i in seq(lo, 16): x[i] = 1, and then a loop over j from there up to the wide end
+abbrev with_wide_end : Control → Control → Block → Procedure
+with_wide_end lo start b =
+    procedure params (joined (loop i lo (number 16) ones) (loop j start wide_end b))
 
-pub too_wide : on_first fuse_rule (with_wide_end (number 0) (copied 3 (Var 3)))
+pub too_wide : on_first fuse_rule (with_wide_end (number 0) (number 0) (copied 3 (Var 3)))
     ≡ Not (Form WideNumber)
 too_wide = refl
 
--- other bounds are told first, and so are writes of fields
-pub other_and_wide : on_first fuse_rule (with_wide_end (number 1) (copied 3 (Var 3)))
+-- other lower bounds are told first, and forms of lower bounds before other upper bounds
+pub other_and_wide : on_first fuse_rule (with_wide_end (number 1) (number 0) (copied 3 (Var 3)))
     ≡ Not WrongShape
 other_and_wide = refl
 
+pub wide_starts :
+    on_first fuse_rule
+    (procedure params (joined (loop i wide_end (number 3) ones) (loop j wide_end (number 4) ones)))
+    ≡ Not (Form WideNumber)
+wide_starts = refl
+
+-- writes of fields are told behind the bounds
 pub writes_and_wide :
     proposed fuse_rule
-    (with_fields one_field (with_wide_end (number 0) (one (Config 0 (ControlArg (number 8))))))
-    (at_index 0) ≡ Not ConfigWrite
+    (with_fields one_field
+    (with_wide_end (number 0) (number 0) (one (Config 0 (ControlArg (number 8))))))
+    (at_index 0) ≡ Not (Form WideNumber)
 writes_and_wide = refl
 
 -- Cfg.w = 8 in the second loop

@@ -1,5 +1,5 @@
 -- Bounds that agree.
-use Rattle.std.proofs.Common.{◌≡◌, Bool, true, false, ◌&&◌, Some, None, refl, ap, ap₂, sym, ◌∙◌}
+use Rattle.std.proofs.Common.{◌≡◌, Bool, true, false, ◌&&◌, Option, Some, None, ap, ap₂, sym, ◌∙◌}
 use Rattle.std.specs.Prelude.{if◌then◌else◌}
 use Rattle.exo_tree.specs.Tree.{Control}
 use Rattle.affine_forms.specs.Forms.{is_affine, keeps_rules}
@@ -10,27 +10,39 @@ use Rattle.affine_places.specs.Agreement.{agree, agreement_fits}
 use Rattle.affine_places.specs.Readings.{extent_reading}
 use Rattle.affine_places.specs.Roots.{variables}
 use Rattle.affine_places.proofs.Rules.{rules_kept}
-use Rattle.loop_rewrites.specs.Nest.Agreement.{agreement}
+use Rattle.cursor_forward.specs.Causes as causes
+use Rattle.cursor_forward.specs.declared.proposal.StepError.TheVariants as errors
+use Rattle.cursor_forward.specs.PlainProposal.{cause_of}
+use Rattle.loop_laws.specs.Bounds.{bounds_differ}
+use Rattle.step_needs.specs.Outcomes.{IsCause}
 
 pub both_keep_rules : (a b : Control) → is_affine variables a ≡ true → is_affine variables b ≡ true
     → (keeps_rules a && keeps_rules b) ≡ true
 both_keep_rules a b h k = ap₂ ◌&&◌ (rules_kept variables a h) (rules_kept variables b k)
 
-pub found : (a b : Control) (t : Bool) → agreement_fits extent_reading a b ≡ true
-    → t ≡ agree extent_reading a b → Some t ≡ agreement a b
-found a b t fits is =
-    ap Some is
-    ∙ sym (ap (λ (f : Bool). if f then Some (agree extent_reading a b) else None) fits)
+abbrev differ_as : Bool → Bool → Option causes.Cause
+differ_as fits same =
+    if fits
+    then (if same then None else Some causes.WrongShape)
+    else Some (causes.Form causes.WideNumber)
 
-no_form : (e : FormError) (fits : Bool) → (e ≡ Memory → ⊥) → IsWide e fits → fits ≡ false
-no_form TooManyCases fits h w = absurd w
-no_form SystemTooLarge fits h w = absurd w
-no_form WideNumber fits h w = w
-no_form TooManySystems fits h w = absurd w
-no_form Memory fits h w = absurd (h refl)
+module _ (a b : Control) (t : Bool) where
+  told : agreement_fits extent_reading a b ≡ true → t ≡ agree extent_reading a b
+      → bounds_differ a b ≡ differ_as true t
+  told fits is = ap₂ differ_as fits (sym is)
 
-pub too_wide : (e : FormError) (a b : Control) → (e ≡ Memory → ⊥)
-    → IsWide e (agreement_fits extent_reading a b) → None ≡ agreement a b
-too_wide e a b h w =
-    sym (ap (λ (f : Bool). if f then Some (agree extent_reading a b) else None)
-    (no_form e (agreement_fits extent_reading a b) h w))
+  pub they_agree : agreement_fits extent_reading a b ≡ true → t ≡ agree extent_reading a b
+      → t ≡ true → bounds_differ a b ≡ None
+  they_agree fits is h = told fits is ∙ ap (differ_as true) h
+
+  pub they_differ : agreement_fits extent_reading a b ≡ true → t ≡ agree extent_reading a b
+      → t ≡ false → bounds_differ a b ≡ Some causes.WrongShape
+  they_differ fits is h = told fits is ∙ ap (differ_as true) h
+
+pub too_wide : (e : FormError) (a b : Control) → IsWide e (agreement_fits extent_reading a b)
+    → IsCause (bounds_differ a b) (cause_of (errors.Form e))
+too_wide TooManyCases a b w = absurd w
+too_wide SystemTooLarge a b w = absurd w
+too_wide WideNumber a b w = ap (λ t. differ_as t (agree extent_reading a b)) w
+too_wide TooManySystems a b w = absurd w
+too_wide Memory a b w = tt

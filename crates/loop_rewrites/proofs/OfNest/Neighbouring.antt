@@ -1,21 +1,19 @@
 -- Two loops, the second of which goes on where the first ends.
-use Rattle.std.proofs.Common.{◌≡◌, ℕ, Bool, true, false, ◌&&◌, List, [], Option, Some, None}
+use Rattle.std.proofs.Common.{◌≡◌, ℕ, Bool, true, false, ◌&&◌, Option, Some, None}
 use Rattle.std.proofs.Common.{refl, sym, ap, ◌∙◌}
-use Rattle.std.specs.Prelude.{if◌then◌else◌, is_none, option_map, option_and_then}
+use Rattle.std.specs.Prelude.{if◌then◌else◌, option_map, option_and_then}
 use Rattle.exo_tree.specs.Tree.{Block, end, next}
-use Rattle.affine_places.specs.Agreement.{agree, agreement_fits}
-use Rattle.affine_places.specs.Readings.{extent_reading}
-use Rattle.cursor_forward.specs.Causes.{Cause, WrongShape, Form, WideNumber}
+use Rattle.cursor_forward.specs.Causes.{Cause, WrongShape}
 use Rattle.place_laws.specs.Order.TurnsOfTwo.{Loop}
 use Rattle.step_rules.specs.Rule.{Tried, Got, Not}
-use Rattle.step_rules.specs.Answer.{then_try}
+use Rattle.step_rules.specs.Answer.{then_try, unless}
 use Rattle.step_rules.specs.Shapes.{tried}
-use Rattle.step_driver.specs.Outcomes.{RefusedBy}
+use Rattle.step_needs.specs.Outcomes.{RefusedBy, IsCause}
 use Rattle.loop_laws.specs.Shapes.{loop_in}
+use Rattle.loop_laws.specs.Bounds.{bounds_differ}
 use Rattle.loop_laws.specs.JoinLoops.{Neighbours, neighbours, have_one_body, meet_in_variables}
-use Rattle.loop_laws.specs.JoinLoops.{with_one_body, where_they_meet, joining, listed_of}
+use Rattle.loop_laws.specs.JoinLoops.{with_one_body, where_they_meet, joining}
 use Rattle.loop_laws.specs.Nest.Fuse.{two_of}
-use Rattle.loop_rewrites.specs.Nest.Agreement.{agreement}
 use Rattle.loop_rewrites.specs.Nest.PlainNeighbours.{side_by_side, plain_neighbours}
 use Rattle.loop_rewrites.specs.Nest.PlainTwo.{plain_loops}
 use Rattle.loop_rewrites.specs.declared.nest.two.Loops.{Loops}
@@ -44,30 +42,13 @@ neighbours_are_two b (Some p) h = ap (option_map side_by_side) h ∙ two_are b
 -- ---- where they meet
 
 module _ (n : Neighbours) where
-  abbrev by_agreement : Option Bool → Tried Neighbours
-  by_agreement None = Not (Form WideNumber)
-  by_agreement (Some t) = if t then Got n else Not WrongShape
+  pub they_meet : bounds_differ n.second.lo n.first.hi ≡ None → where_they_meet n ≡ Got n
+  they_meet h = ap (λ (w : Option Cause). unless w (Got n)) h
 
-  agreed : where_they_meet n ≡ by_agreement (agreement n.second.lo n.first.hi)
-  agreed = by (agreement_fits extent_reading n.second.lo n.first.hi)
-    where
-      met : Tried Neighbours
-      met = if agree extent_reading n.second.lo n.first.hi then Got n else Not WrongShape
-
-      by : (t : Bool) → (if t then met else Not (Form WideNumber))
-          ≡ by_agreement (if t then Some (agree extent_reading n.second.lo n.first.hi) else None)
-      by true = refl
-      by false = refl
-
-  pub they_meet : Some true ≡ agreement n.second.lo n.first.hi → where_they_meet n ≡ Got n
-  they_meet h = agreed ∙ ap by_agreement (sym h)
-
-  pub they_miss : Some false ≡ agreement n.second.lo n.first.hi → where_they_meet n ≡ Not WrongShape
-  they_miss h = agreed ∙ ap by_agreement (sym h)
-
-  pub not_known : None ≡ agreement n.second.lo n.first.hi
-      → where_they_meet n ≡ Not (Form WideNumber)
-  not_known h = agreed ∙ ap by_agreement (sym h)
+  pub they_miss : (why : Option Cause) → IsCause (bounds_differ n.second.lo n.first.hi) why
+      → RefusedBy (where_they_meet n) why
+  they_miss None h = tt
+  they_miss (Some cause) h = ap (λ (w : Option Cause). unless w (Got n)) h
 
 -- ---- the shape
 
@@ -94,14 +75,3 @@ module _ (base : ℕ) (b : Block) where
       → meet_in_variables n ≡ true → joining base b ≡ where_they_meet n
   joining_of n h k l =
       ap from (sym h) ∙ ap (λ t. tested n (t && meet_in_variables n)) k ∙ ap (tested n) l
-
--- ---- what is told of them
-
-pub listed_by : {T : Type 0} (list : Neighbours → List T) (tried : Tried Neighbours)
-    (n : Neighbours) → tried ≡ Got n → listed_of list tried ≡ list n
-listed_by list tried n h = ap (listed_of list) h
-
-pub nothing_listed : {T : Type 0} (list : Neighbours → List T) (tried : Tried Neighbours)
-    (why : Option Cause) → RefusedBy tried why → is_none why ≡ false → listed_of list tried ≡ []
-nothing_listed list tried None h k = cc
-nothing_listed list tried (Some cause) h k = ap (listed_of list) h

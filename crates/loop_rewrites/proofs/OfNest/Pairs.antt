@@ -1,14 +1,17 @@
 -- Two loops that are all of a block.
-use Rattle.std.proofs.Common.{◌≡◌, ◌≢◌, Bool, true, false, not, ◌&&◌, ◌||◌, List, [], ◌∷◌, length, drop}
+use Rattle.std.proofs.Common.{◌≡◌, ◌≢◌, Bool, true, false, List, [], ◌∷◌, length, drop}
 use Rattle.std.proofs.Common.{Option, Some, None, refl, ap, ap₂, sym, ◌∙◌, arith}
-use Rattle.std.specs.Prelude.{if◌then◌else◌, option_and_then, unwrap_or, is_some}
-use Rattle.exo_tree.specs.Tree.{Control, Statement, Block, block}
-use Rattle.affine_places.specs.Agreement.{agree, agreement_fits}
-use Rattle.affine_places.specs.Readings.{extent_reading}
+use Rattle.std.specs.Prelude.{if◌then◌else◌, option_and_then}
+use Rattle.exo_tree.specs.Tree.{Statement, Block, block}
+use Rattle.cursor_forward.specs.Causes.{Cause, WrongShape}
+use Rattle.step_rules.specs.Rule.{Tried, Got, Not}
+use Rattle.step_rules.specs.Answer.{then_try, unless}
+use Rattle.step_rules.specs.Shapes.{tried}
+use Rattle.step_needs.specs.Outcomes.{RefusedBy, IsCause}
 use Rattle.loop_laws.specs.Shapes.{loop_in}
-use Rattle.loop_laws.specs.Nest.Fuse.{Two, with_second, two_of, two_in, may_agree, bounds_may_agree}
-use Rattle.loop_laws.specs.Nest.Fuse.{bounds_fit, both_are_affine, where_they_agree}
-use Rattle.loop_rewrites.specs.Nest.Agreement.{agreement}
+use Rattle.loop_laws.specs.Bounds.{bounds_differ}
+use Rattle.loop_laws.specs.Nest.Fuse.{Two, with_second, two_of, both_are_affine, in_variables}
+use Rattle.loop_laws.specs.Nest.Fuse.{where_they_agree, fusing}
 
 -- ---- two statements
 
@@ -30,65 +33,45 @@ no_two (a ∷ b ∷ c ∷ ss) h = refl
 
 -- ---- bounds
 
-known : (a b : Control) → unwrap_or (agreement a b) true ≡ may_agree a b
-known a b = by (agreement_fits extent_reading a b)
-  where
-    by : (t : Bool) → unwrap_or (if t then Some (agree extent_reading a b) else None) true
-        ≡ (not t || agree extent_reading a b)
-    by true = refl
-    by false = refl
+module _ (p : Two) where
+  abbrev upper : Tried Two
+  upper = unless (bounds_differ p.first.hi p.second.hi) (Got p)
 
-written : (a b : Control) → is_some (agreement a b) ≡ agreement_fits extent_reading a b
-written a b = by (agreement_fits extent_reading a b)
-  where
-    by : (t : Bool) → is_some (if t then Some (agree extent_reading a b) else None) ≡ t
-    by true = refl
-    by false = refl
+  pub lower_differ : (why : Option Cause) → IsCause (bounds_differ p.first.lo p.second.lo) why
+      → RefusedBy (where_they_agree p) why
+  lower_differ None h = tt
+  lower_differ (Some cause) h = ap (λ (w : Option Cause). unless w upper) h
 
--- the bounds of both ends, as they are asked
-pub they_agree : (p : Two) (low high : Option Bool) → low ≡ agreement p.first.lo p.second.lo
-    → high ≡ agreement p.first.hi p.second.hi
-    → (unwrap_or low true && unwrap_or high true) ≡ bounds_may_agree p
-they_agree p low high h k =
-    ap₂ (λ x y. unwrap_or x true && unwrap_or y true) h k
-    ∙ ap₂ ◌&&◌ (known p.first.lo p.second.lo) (known p.first.hi p.second.hi)
+  pub upper_differ : (why : Option Cause) → bounds_differ p.first.lo p.second.lo ≡ None
+      → IsCause (bounds_differ p.first.hi p.second.hi) why → RefusedBy (where_they_agree p) why
+  upper_differ None h k = tt
+  upper_differ (Some cause) h k =
+      ap (λ (w : Option Cause). unless w upper) h
+      ∙ ap (λ (w : Option Cause). unless w (Got p)) k
 
-pub they_fit : (p : Two) (low high : Option Bool) → low ≡ agreement p.first.lo p.second.lo
-    → high ≡ agreement p.first.hi p.second.hi
-    → (is_some low && is_some high) ≡ bounds_fit p
-they_fit p low high h k =
-    ap₂ (λ x y. is_some x && is_some y) h k
-    ∙ ap₂ ◌&&◌ (written p.first.lo p.second.lo) (written p.first.hi p.second.hi)
+  pub both_agree : bounds_differ p.first.lo p.second.lo ≡ None
+      → bounds_differ p.first.hi p.second.hi ≡ None
+      → where_they_agree p ≡ Got p
+  both_agree h k =
+      ap (λ (w : Option Cause). unless w upper) h
+      ∙ ap (λ (w : Option Cause). unless w (Got p)) k
 
-agreeing_two : (p : Two) (t : Bool) → both_are_affine p ≡ true → t ≡ bounds_may_agree p
-    → (if t then Some p else None) ≡ where_they_agree p
-agreeing_two p t h k =
-    ap (λ (x : Bool). if x then Some p else None) (k ∙ ap (λ x. x && bounds_may_agree p) (sym h))
+-- ---- the shape
 
-pub both_agree : (p : Two) (low high : Option Bool) (t : Bool) → both_are_affine p ≡ true
-    → low ≡ agreement p.first.lo p.second.lo
-    → high ≡ agreement p.first.hi p.second.hi
-    → t ≡ (unwrap_or low true && unwrap_or high true) → t ≡ true → Some p ≡ where_they_agree p
-both_agree p low high t affine h k is e =
-    ap (λ (x : Bool). if x then Some p else None) (sym e)
-    ∙ agreeing_two p t affine (is ∙ they_agree p low high h k)
+module _ (b : Block) where
+  abbrev from : Option Two → Tried Two
+  from x = then_try (tried (option_and_then in_variables x) (λ p. p)) where_they_agree
 
-pub others_agree : (p : Two) (low high : Option Bool) (t : Bool) → both_are_affine p ≡ true
-    → low ≡ agreement p.first.lo p.second.lo
-    → high ≡ agreement p.first.hi p.second.hi
-    → t ≡ (unwrap_or low true && unwrap_or high true) → t ≡ false → None ≡ where_they_agree p
-others_agree p low high t affine h k is e =
-    ap (λ (x : Bool). if x then Some p else None) (sym e)
-    ∙ agreeing_two p t affine (is ∙ they_agree p low high h k)
+  abbrev tested : Two → Bool → Tried Two
+  tested p t = then_try (tried (if t then Some p else None) (λ q. q)) where_they_agree
 
-pub not_affine_two : (b : Block) (p : Two) → Some p ≡ two_of b → both_are_affine p ≡ false
-    → None ≡ two_in b
-not_affine_two b p h k =
-    sym (ap (λ (x : Bool). if x && bounds_may_agree p then Some p else None) k)
-    ∙ ap (option_and_then where_they_agree) h
+  pub no_loops : None ≡ two_of b → fusing b ≡ Not WrongShape
+  no_loops h = ap from (sym h)
 
-pub two_of_loops : (b : Block) (p : Two) → Some p ≡ two_of b → where_they_agree p ≡ two_in b
-two_of_loops b p h = ap (option_and_then where_they_agree) h
+  pub not_affine_two : (p : Two) → Some p ≡ two_of b → both_are_affine p ≡ false
+      → fusing b ≡ Not WrongShape
+  not_affine_two p h k = ap from (sym h) ∙ ap (tested p) k
 
-pub no_loops : (b : Block) → None ≡ two_of b → None ≡ two_in b
-no_loops b h = ap (option_and_then where_they_agree) h
+  pub fusing_of : (p : Two) → Some p ≡ two_of b → both_are_affine p ≡ true
+      → fusing b ≡ where_they_agree p
+  fusing_of p h k = ap from (sym h) ∙ ap (tested p) k

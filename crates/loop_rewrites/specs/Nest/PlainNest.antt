@@ -1,5 +1,5 @@
 -- The plain form of a loop and the one loop in it.
-use Rattle.loop_rewrites.specs.Shapes.PlainLoop.{plain_loop}
+use Rattle.step_targets.specs.PlainLoop.{plain_loop}
 use Rattle.loop_laws.specs.Nest.ReorderLoops.{Nest}
 use Rattle.loop_rewrites.specs.declared.nest.nests.NestAt.{NestAt}
 

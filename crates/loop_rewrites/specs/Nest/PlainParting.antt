@@ -1,7 +1,7 @@
 -- The plain forms of a loop in parts, and of a write.
 use Rattle.exo_tree.specs.Tree.{block}
 use Rattle.exo_tree.specs.PlainArgument.{argument}
-use Rattle.loop_rewrites.specs.Shapes.PlainLoop.{plain_loop}
+use Rattle.step_targets.specs.PlainLoop.{plain_loop}
 use Rattle.loop_laws.specs.Nest.Fission.{Parting, Write}
 use Rattle.loop_rewrites.specs.declared.nest.parting.PartingAt.{PartingAt}
 use Rattle.loop_rewrites.specs.declared.nest.steady.WriteAt.{WriteAt}

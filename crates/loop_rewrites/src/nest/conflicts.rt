@@ -7,13 +7,13 @@ ghost use Rattle.exo_effects.specs.Orders as orders;
 ghost use Rattle.effect_laws.specs.Fits as fits;
 ghost use Rattle.loop_laws.specs.Nest.Shapes.{header_of, step};
 ghost use Rattle.step_needs.specs.PlainNeed.{plain_turns, plain_conflict};
-ghost use Rattle.loop_rewrites.specs.Shapes.PlainLoop.{plain_loop};
+ghost use Rattle.step_targets.specs.PlainLoop.{plain_loop};
 
-use crate::shapes::{LoopAt, header, onward};
 use exo_conflicts::OrderRow;
 use exo_tree::{Branch, Path, Step};
 use std::alloc::{AllocError, Global};
 use step_needs::{Conflict, Turns};
+use step_targets::{LoopAt, header, path_onward};
 
 /// So many statements from a path on, at a turn of a loop.
 pub(crate) fn in_one(
@@ -22,7 +22,8 @@ pub(crate) fn in_one(
     path: Path,
     count: u32,
 ) -> Result<Turns, AllocError>
-    ensures { IfOk result (λ k. plain_turns k ≡ fits.in_one (header_of (plain_loop l.now)) path count) }
+    ensures { IfOk result (λ k. plain_turns k
+        ≡ fits.in_one (header_of (plain_loop l.now)) path count) }
 {
     let mut loops = Vec::new(alloc);
     loops.push(header(alloc, l)?)?;
@@ -37,7 +38,9 @@ pub(crate) fn in_two(
     path: Path,
     count: u32,
 ) -> Result<Turns, AllocError>
-    ensures { IfOk result (λ k. plain_turns k ≡ fits.in_two (header_of (plain_loop outer.now)) (header_of (plain_loop inner.now)) path count) }
+    ensures { IfOk result (λ k. plain_turns k
+        ≡ fits.in_two (header_of (plain_loop outer.now))
+        (header_of (plain_loop inner.now)) path count) }
 {
     let mut loops = Vec::new(alloc);
     loops.push(header(alloc, outer)?)?;
@@ -56,7 +59,8 @@ pub(crate) fn later(alloc: Global) -> Result<Vec<OrderRow>, AllocError>
 
 /// A turn against a later one of the outer loop and an earlier one of the inner loop.
 pub(crate) fn crossing(alloc: Global) -> Result<Vec<OrderRow>, AllocError>
-    ensures { IfOk result (λ rows. map plain_row rows.items ≡ orders.Less 0 ∷ orders.Greater 1 ∷ []) }
+    ensures { IfOk result (λ rows. map plain_row rows.items
+        ≡ orders.Less 0 ∷ orders.Greater 1 ∷ []) }
 {
     let mut rows = later(alloc)?;
     rows.push(OrderRow::Greater(1))?;
@@ -65,7 +69,12 @@ pub(crate) fn crossing(alloc: Global) -> Result<Vec<OrderRow>, AllocError>
 
 /// Two pieces, each at a turn of one loop, that of the second being the later one.
 pub(crate) fn in_turn(alloc: Global, first: Turns, second: Turns) -> Result<Conflict, AllocError>
-    ensures { IfOk result (λ k. plain_conflict k ≡ record { first = plain_turns first; second = plain_turns second; order = orders.Less 0 ∷ [] }) }
+    ensures { IfOk result (λ k. plain_conflict k
+        ≡ record {
+          first = plain_turns first;
+          second = plain_turns second;
+          order = orders.Less 0 ∷ [];
+        }) }
 {
     let order = later(alloc)?;
     Ok(Conflict {
@@ -79,7 +88,7 @@ pub(crate) fn in_turn(alloc: Global, first: Turns, second: Turns) -> Result<Conf
 pub(crate) fn in_loop(k: u32, n: u32) -> Result<Path, AllocError>
     ensures { IfOk result (λ p. p ≡ step k ∷ at_index n) }
 {
-    onward(&Path::new(), k, &[numbered(n)])
+    path_onward(&Path::new(), k, &[numbered(n)])
 }
 
 /// The step to the statement of a number.

@@ -16,7 +16,8 @@ pub(crate) fn unless_it_writes(
     on: &Target<'_>,
     piece: &Piece,
 ) -> Result<(), StepError>
-    ensures { Refuses (plain.unless_it_writes (spot_at (target on.now) (plain_piece piece.now))) result }
+    ensures { Refuses
+        (plain.unless_it_writes (spot_at (target on.now) (plain_piece piece.now))) result }
 {
     let old = on.statements(alloc, piece)?;
     if writes_some(alloc, on.unit, &old)? {

@@ -1,38 +1,28 @@
 //! The step that makes one loop of two, the second of which goes on where the first ends.
-ghost use Rattle.std.specs.Prelude.{◌≡◌, IsTrue, map, option_map, IfOk};
-ghost use Rattle.exo_tree.specs.Tree as tree;
+ghost use Rattle.std.specs.Prelude.{◌≡◌, IsTrue, map, option_map, IfOk, refl};
 ghost use Rattle.exo_tree.specs.Tree.{block};
-ghost use Rattle.exo_tree.specs.PlainControl.{control};
 ghost use Rattle.exo_tree.specs.PlainProcedure.{procedure};
-ghost use Rattle.exo_tree.specs.PlainUnit.{program};
 ghost use Rattle.exo_tree.specs.Renaming as renaming;
-ghost use Rattle.exo_modes.specs.Marks.{modes_of};
-ghost use Rattle.exo_modes.specs.Seen.{table_says};
 ghost use Rattle.made_trees.specs.Ids.{next_id};
-ghost use Rattle.cursor_forward.specs.PlainProposal.{plain_proposal};
-ghost use Rattle.step_rules.specs.Answer.{proposed};
-ghost use Rattle.step_rules.specs.Lawful.{IsTarget};
 ghost use Rattle.loop_laws.specs.JoinLoops as plain;
 ghost use Rattle.loop_laws.specs.JoinLoops.{join_rule};
 ghost use Rattle.loop_laws.proofs.JoinRule.{join_is_lawful, join_is_carrying};
-ghost use Rattle.step_driver.specs.Outcomes.{Tries, IsKept, KeepsMeaning, Moves};
-ghost use Rattle.step_driver.specs.PlainTarget.{target};
+ghost use Rattle.step_driver.specs.Outcomes.{Tries};
 ghost use Rattle.step_needs.specs.PlainNeed.{plain_need};
 ghost use Rattle.loop_rewrites.specs.Nest.PlainNeighbours.{plain_neighbours};
-ghost use Rattle.loop_rewrites.specs.Shapes.PlainLoop.{plain_loop};
+ghost use Rattle.step_targets.specs.PlainLoop.{plain_loop};
 
-use crate::nest::agreeing::agreement;
+use crate::nest::agreeing::unless_they_differ;
 use crate::nest::same::same_block;
 use crate::nest::two::{Loops, loops_of};
-use crate::shapes::{LoopAt, at_most, is_over_variables};
 use crate::unrolling::is_memory;
-use affine_forms::FormError;
-use cursor_forward::{Proposal, Shifts, StepError};
-use exo_tree::{Block, Ctrl, Name, Path, Proc};
+use cursor_forward::{Shifts, StepError};
+use exo_tree::{Block, Ctrl, Path, Proc};
 use made_trees::Fresh;
 use std::alloc::{AllocError, Global};
-use step_driver::{Exit, Operator, Piece, Target, Writing, propose, stays};
+use step_driver::{Piece, Target, Writing, stays};
 use step_needs::Need;
+use step_targets::{LoopAt, OnPiece, Plain, at_most, is_over_variables};
 
 /// The two loops that are all of a block; None exactly where it is no two loops.
 #[tactic(auto, using(crate::proofs::OfNest::Neighbouring::neighbours_are_two))]
@@ -44,7 +34,8 @@ fn neighbours(b: &Block) -> Option<Loops<'_>>
 
 /// A loop without its bounds, its binders numbered from behind the greatest id of a procedure on.
 fn numbered(alloc: Global, p: &Proc, l: &LoopAt<'_>) -> Result<Block, AllocError>
-    ensures { IfOk result (λ b. block b ≡ renaming.fresh (next_id (procedure p.now)) (plain.unbounded (plain_loop l.now))) }
+    ensures { IfOk result (λ b. block b
+        ≡ renaming.fresh (next_id (procedure p.now)) (plain.unbounded (plain_loop l.now))) }
 {
     let zero = Ctrl::Lit(0);
     let unbounded = l.between(alloc, &zero, &zero, l.body)?;
@@ -55,7 +46,8 @@ fn numbered(alloc: Global, p: &Proc, l: &LoopAt<'_>) -> Result<Block, AllocError
 impl<'a> Loops<'a> {
     /// Whether the bodies are the same but for the ids and names of binders.
     fn have_one_body(&self, alloc: Global, p: &Proc) -> Result<bool, AllocError>
-        ensures { IfOk result (λ t. t ≡ plain.have_one_body (next_id (procedure p.now)) (plain_neighbours self.now)) }
+        ensures { IfOk result (λ t. t
+            ≡ plain.have_one_body (next_id (procedure p.now)) (plain_neighbours self.now)) }
     {
         let first = numbered(alloc, p, &self.first)?;
         let second = numbered(alloc, p, &self.second)?;
@@ -69,21 +61,20 @@ impl<'a> Loops<'a> {
         is_over_variables(self.second.lo) && is_over_variables(self.first.hi)
     }
 
-    /// Both loops, where the second begins where the first ends. `WrongShape` where it does not, `Form` where the normal form
-    /// of one of those bounds is too wide.
-    #[tactic(auto, using(crate::proofs::OfNest::Neighbouring::they_meet, crate::proofs::OfNest::Neighbouring::they_miss, crate::proofs::OfNest::Neighbouring::not_known))]
+    /// Both loops, where the second begins where the first ends. `WrongShape` where it does not,
+    /// `Form` where the normal form of one of those bounds is too wide.
+    #[tactic(auto, using(crate::proofs::OfNest::Neighbouring::they_meet, crate::proofs::OfNest::Neighbouring::they_miss))]
     fn meeting(self, alloc: Global) -> Result<Loops<'a>, StepError>
         requires { IsTrue (plain.meet_in_variables (plain_neighbours self)) }
-        ensures { Tries plain_neighbours (plain.where_they_meet (plain_neighbours self.entry)) result }
+        ensures { Tries plain_neighbours
+            (plain.where_they_meet (plain_neighbours self.entry)) result }
     {
-        match agreement(alloc, self.second.lo, self.first.hi)? {
-            None => Err(StepError::Form(FormError::WideNumber)),
-            Some(false) => Err(StepError::WrongShape),
-            Some(true) => Ok(self),
-        }
+        unless_they_differ(alloc, self.second.lo, self.first.hi)?;
+        Ok(self)
     }
 
-    /// One loop from the lower bound of the first up to the upper one of the second, with the first body.
+    /// One loop from the lower bound of the first up to the upper one of the second, with the first
+    /// body.
     fn joined(&self, alloc: Global) -> Result<Block, AllocError>
         ensures { IfOk result (λ b. block b ≡ plain.joined_loop (plain_neighbours self.now)) }
     {
@@ -93,7 +84,8 @@ impl<'a> Loops<'a> {
 
     /// That neither ends before it begins.
     fn in_order(&self, alloc: Global, at: &Path) -> Result<Vec<Need>, AllocError>
-        ensures { IfOk result (λ ns. map plain_need ns.items ≡ plain.join_needs at.now (plain_neighbours self.now)) }
+        ensures { IfOk result (λ ns. map plain_need ns.items
+            ≡ plain.join_needs at.now (plain_neighbours self.now)) }
     {
         let mut all = Vec::new(alloc);
         all.push(at_most(alloc, at, self.first.lo, self.first.hi)?)?;
@@ -102,11 +94,12 @@ impl<'a> Loops<'a> {
     }
 }
 
-/// The two loops that are all of a block, with one body, the second from where the first ends. `WrongShape` where there are
-/// none, `Form` where the normal form of a bound is too wide.
+/// The two loops that are all of a block, with one body, the second from where the first ends.
+/// `WrongShape` where there are none, `Form` where the normal form of a bound is too wide.
 #[tactic(auto, using(crate::proofs::OfNest::Neighbouring::no_neighbours, crate::proofs::OfNest::Neighbouring::other_bodies, crate::proofs::OfNest::Neighbouring::other_bounds, crate::proofs::OfNest::Neighbouring::joining_of))]
 fn joinable<'a>(alloc: Global, p: &Proc, b: &'a Block) -> Result<Loops<'a>, StepError>
-    ensures { Tries plain_neighbours (plain.joining (next_id (procedure p.now)) (block b.now)) result }
+    ensures { Tries plain_neighbours
+        (plain.joining (next_id (procedure p.now)) (block b.now)) result }
 {
     let Some(n) = neighbours(b) else {
         return Err(StepError::WrongShape);
@@ -120,17 +113,24 @@ fn joinable<'a>(alloc: Global, p: &Proc, b: &'a Block) -> Result<Loops<'a>, Step
     n.meeting(alloc)
 }
 
-/// The step that makes one loop of two, the second of which goes on where the first ends.
+/// The step that makes one loop of a loop and the next one, which has the same body but for the
+/// names of binders and begins where the first ends: up to where the second ends, with the first
+/// body. It owes that neither ends before it begins. `WrongShape` where no two such loops stand
+/// there; `Form` where the normal form of a bound that is to agree is too wide.
 #[derive(Drop)]
 pub struct Joining;
 
-impl Operator for Joining {
+impl Plain for Joining {
     ghost rule = { λ o. join_rule };
+
+    ghost is_plain = { λ o. refl };
 
     ghost lawful = { λ o. join_is_lawful };
 
     ghost carrying = { λ o. join_is_carrying };
+}
 
+impl OnPiece for Joining {
     fn piece(&self, alloc: Global, on: &Target<'_>, at: &Path) -> Result<Piece, StepError> {
         let piece = Piece {
             path: at.duplicate(),
@@ -142,7 +142,7 @@ impl Operator for Joining {
     }
 
     #[tactic(auto, using(crate::proofs::Unrolled::then_got, crate::proofs::Unrolled::then_refused))]
-    fn draft(
+    fn made(
         &self,
         alloc: Global,
         on: &Target<'_>,
@@ -155,15 +155,7 @@ impl Operator for Joining {
         Ok(n.joined(alloc)?)
     }
 
-    fn named(&self) -> u16 {
-        0
-    }
-
-    fn refusal(&self, _alloc: Global, _on: &Target<'_>, _piece: &Piece) -> Result<(), StepError> {
-        Ok(())
-    }
-
-    #[tactic(auto, using(crate::proofs::OfNest::Neighbouring::listed_by, crate::proofs::OfNest::Neighbouring::nothing_listed))]
+    #[tactic(auto, using(crate::proofs::OfNest::Listed::listed_by, crate::proofs::OfNest::Listed::nothing_listed))]
     fn needs(
         &self,
         alloc: Global,
@@ -182,8 +174,8 @@ impl Operator for Joining {
         }
     }
 
-    #[tactic(auto, using(crate::proofs::OfNest::Neighbouring::listed_by, crate::proofs::OfNest::Neighbouring::nothing_listed))]
-    fn shifts(&self, alloc: Global, on: &Target<'_>, piece: &Piece) -> Result<Shifts, AllocError> {
+    #[tactic(auto, using(crate::proofs::OfNest::Listed::listed_by, crate::proofs::OfNest::Listed::nothing_listed))]
+    fn moved(&self, alloc: Global, on: &Target<'_>, piece: &Piece) -> Result<Shifts, AllocError> {
         let old = on.statements(alloc, piece)?;
         match joinable(alloc, on.proc, &old) {
             Ok(_) => stays(alloc, 1),
@@ -195,27 +187,4 @@ impl Operator for Joining {
             }
         }
     }
-
-    fn name(&self, alloc: Global, p: &Proc) -> Result<Name, AllocError> {
-        p.name.duplicate(alloc)
-    }
-
-    fn exit(&self, alloc: Global, _on: &Target<'_>, _piece: &Piece) -> Result<Exit, AllocError> {
-        Ok(Exit::unchanged(alloc))
-    }
-}
-
-/// The procedure with one loop in the place of the loop at a path and the next one, which has the same body but for the names
-/// of binders and begins where the first ends: up to where the second ends, with the first body. It owes that neither ends
-/// before it begins. `WrongShape` where no two such loops stand there; `Form` where the normal form of a bound that is to
-/// agree is too wide.
-pub fn join_loops(alloc: Global, on: &Target<'_>, at: &Path) -> Result<Proposal, StepError>
-    requires modes { table_says on.now.modes.now ≡ modes_of (program on.now.unit.now) }
-    requires target { IsTarget (target on.now) }
-    ensures answer { Tries plain_proposal (proposed join_rule (target on.now) at.now) result }
-    ensures kept { IfOk result (λ m. IsKept (target on.now) (plain_proposal m)) }
-    ensures meaning { IfOk result (λ m. KeepsMeaning (target on.now) (plain_proposal m)) }
-    ensures moves { IfOk result (λ m. Moves (target on.now) (plain_proposal m)) }
-{
-    propose(alloc, on, at, &Joining)
 }

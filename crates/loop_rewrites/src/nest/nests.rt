@@ -7,13 +7,13 @@ ghost use Rattle.loop_laws.specs.Shapes as shapes;
 ghost use Rattle.loop_laws.specs.Nest.ReorderLoops as plain;
 ghost use Rattle.step_driver.specs.PlainTarget.{target, plain_piece};
 ghost use Rattle.step_driver.specs.Spots.{spot_at};
-ghost use Rattle.loop_rewrites.specs.Shapes.PlainLoop.{plain_loop};
+ghost use Rattle.step_targets.specs.PlainLoop.{plain_loop};
 ghost use Rattle.loop_rewrites.specs.Nest.PlainNest.{plain_nest};
 
-use crate::shapes::{LoopAt, loop_at, loop_of};
 use exo_tree::{Block, Ctrl, Id};
 use std::alloc::{AllocError, Global};
 use step_driver::{Piece, Target};
+use step_targets::{LoopAt, loop_at, loop_of};
 
 /// A loop and the one loop in it.
 #[derive(Clone, Copy)]
@@ -42,7 +42,8 @@ fn has_variable(e: &Ctrl, x: Id) -> bool
 
 /// The inner loop, where its bounds lack the variable of the outer one.
 fn with_inner<'a>(outer: LoopAt<'a>, inner: LoopAt<'a>) -> Option<NestAt<'a>>
-    ensures { option_map plain_nest result ≡ plain.with_inner (plain_loop outer.entry) (plain_loop inner.entry) }
+    ensures { option_map plain_nest result
+        ≡ plain.with_inner (plain_loop outer.entry) (plain_loop inner.entry) }
 {
     let x = outer.binder.id;
     if !has_variable(inner.lo, x) && !has_variable(inner.hi, x) {
@@ -54,7 +55,9 @@ fn with_inner<'a>(outer: LoopAt<'a>, inner: LoopAt<'a>) -> Option<NestAt<'a>>
 
 /// The nest of a loop; None exactly where its body is no such loop.
 fn nest_in(outer: LoopAt<'_>) -> Option<NestAt<'_>>
-    ensures { option_map plain_nest result ≡ option_and_then (plain.with_inner (plain_loop outer.entry)) (shapes.loop_of (plain_loop outer.entry).body) }
+    ensures { option_map plain_nest result
+        ≡ option_and_then (plain.with_inner (plain_loop outer.entry))
+        (shapes.loop_of (plain_loop outer.entry).body) }
 {
     match loop_of(outer.body) {
         None => None,
@@ -62,9 +65,11 @@ fn nest_in(outer: LoopAt<'_>) -> Option<NestAt<'_>>
     }
 }
 
-/// The nest that is all of a piece; None exactly where there is none, or where the inner bounds depend on the outer turn.
+/// The nest that is all of a piece; None exactly where there is none, or where the inner bounds
+/// depend on the outer turn.
 pub(crate) fn nest_at<'a>(on: &Target<'a>, piece: &Piece) -> Option<NestAt<'a>>
-    ensures { option_map plain_nest result ≡ plain.nest_of (spot_at (target on.now) (plain_piece piece.now)).opened.piece }
+    ensures { option_map plain_nest result
+        ≡ plain.nest_of (spot_at (target on.now) (plain_piece piece.now)).opened.piece }
 {
     match loop_at(on, piece) {
         None => None,

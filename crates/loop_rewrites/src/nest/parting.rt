@@ -1,5 +1,5 @@
 //! A loop whose body is parted.
-ghost use Rattle.std.specs.Prelude.{◌≡◌, option_map, option_and_then, IfOk};
+ghost use Rattle.std.specs.Prelude.{◌≡◌, option_map, IfOk};
 ghost use Rattle.exo_tree.specs.Tree.{block};
 ghost use Rattle.exo_tree.specs.Places as places;
 ghost use Rattle.exo_tree.specs.Renaming as renaming;
@@ -7,14 +7,14 @@ ghost use Rattle.place_laws.specs.Scope.UnrollLoop.{only_loop};
 ghost use Rattle.loop_laws.specs.Nest.Fission as plain;
 ghost use Rattle.step_driver.specs.PlainTarget.{target, plain_piece};
 ghost use Rattle.step_driver.specs.Spots.{spot_at};
-ghost use Rattle.loop_rewrites.specs.Shapes.PlainLoop.{plain_loop};
+ghost use Rattle.step_targets.specs.PlainLoop.{plain_loop};
 ghost use Rattle.loop_rewrites.specs.Nest.PlainParting.{plain_parting};
 
-use crate::shapes::{Left, LoopAt, loop_at};
 use exo_tree::Block;
 use made_trees::Fresh;
 use std::alloc::{AllocError, Global};
 use step_driver::{Piece, Target};
+use step_targets::{Left, LoopAt, loop_at};
 use tree_mentions::in_block;
 
 /// A loop, with the two parts of its body.
@@ -28,7 +28,8 @@ pub(crate) struct PartingAt<'a> {
 /// The first so many statements of a block, and the rest; None exactly where it has not so many.
 #[tactic(auto, using(crate::proofs::OfNest::Parts::parted_pieces, crate::proofs::OfNest::Parts::parted_none))]
 fn parted(alloc: Global, b: &Block, count: usize) -> Result<Option<(Block, Block)>, AllocError>
-    ensures { IfOk result (λ p. option_map (λ q. (block q.0, block q.1)) p ≡ places.parted count (block b.now)) }
+    ensures { IfOk result (λ p. option_map (λ q. (block q.0, block q.1)) p
+        ≡ places.parted count (block b.now)) }
 {
     let all = b.len();
     if count > all {
@@ -54,7 +55,8 @@ fn parting_in<'a>(
     whole: LoopAt<'a>,
     count: u32,
 ) -> Result<Option<PartingAt<'a>>, AllocError>
-    ensures { IfOk result (λ p. option_map plain_parting p ≡ plain.parted_at count (plain_loop whole.entry)) }
+    ensures { IfOk result (λ p. option_map plain_parting p
+        ≡ plain.parted_at count (plain_loop whole.entry)) }
 {
     let Some((first, second)) = parted(alloc, whole.body, count as usize)? else {
         return Ok(None);
@@ -70,15 +72,16 @@ fn parting_in<'a>(
     }
 }
 
-/// The loop that is all of a piece, parted behind so many statements of its body; None exactly where there is none, or it
-/// may not be parted there.
+/// The loop that is all of a piece, parted behind so many statements of its body; None exactly
+/// where there is none, or it may not be parted there.
 pub(crate) fn parting_at<'a>(
     alloc: Global,
     on: &Target<'a>,
     piece: &Piece,
     count: u32,
 ) -> Result<Option<PartingAt<'a>>, AllocError>
-    ensures { IfOk result (λ p. option_map plain_parting p ≡ plain.parting_of count (spot_at (target on.now) (plain_piece piece.now)).opened.piece) }
+    ensures { IfOk result (λ p. option_map plain_parting p
+        ≡ plain.parting_of count (spot_at (target on.now) (plain_piece piece.now)).opened.piece) }
 {
     match loop_at(on, piece) {
         None => Ok(None),
@@ -89,7 +92,10 @@ pub(crate) fn parting_at<'a>(
 impl PartingAt<'_> {
     /// A copy of the loop, with the second part.
     fn copy(&self, alloc: Global, fresh: &mut Fresh) -> Result<Block, AllocError>
-        ensures { IfOk result (λ b. block b ≡ renaming.fresh fresh.old (only_loop (plain_loop self.now.whole).binder (plain_loop self.now.whole).lo (plain_loop self.now.whole).hi (block self.now.second))) }
+        ensures { IfOk result (λ b. block b
+            ≡ renaming.fresh fresh.old
+            (only_loop (plain_loop self.now.whole).binder (plain_loop self.now.whole).lo
+            (plain_loop self.now.whole).hi (block self.now.second))) }
     {
         let second = self.whole.with_body(alloc, &self.second)?;
         fresh.copy(alloc, &second)
@@ -97,7 +103,8 @@ impl PartingAt<'_> {
 
     /// The loop with the first part, and a copy of it with the second.
     pub(crate) fn loops(&self, alloc: Global, fresh: &mut Fresh) -> Result<Block, AllocError>
-        ensures { IfOk result (λ b. block b ≡ plain.parted_loops (plain_parting self.now) fresh.old) }
+        ensures { IfOk result (λ b. block b
+            ≡ plain.parted_loops (plain_parting self.now) fresh.old) }
     {
         let mut made = self.whole.with_body(alloc, &self.first)?;
         let copy = self.copy(alloc, fresh)?;

@@ -1,5 +1,5 @@
 //! Whether trees are the same but for the names of binders.
-ghost use Rattle.std.specs.Prelude.{◌≡◌, map, drop};
+ghost use Rattle.std.specs.Prelude.{◌≡◌, map};
 ghost use Rattle.exo_tree.specs.Cells.{same_cell};
 ghost use Rattle.exo_tree.specs.Tree.{block};
 ghost use Rattle.exo_tree.specs.PlainArgument.{argument};

@@ -1,7 +1,6 @@
 //! Whether the first part of a loop is a write that each turn may repeat.
 ghost use Rattle.std.specs.Prelude.{◌≡◌, ◌==◌, option_map, option_and_then, IfOk};
 ghost use Rattle.exo_tree.specs.Tree.{block};
-ghost use Rattle.exo_tree.specs.PlainArgument.{argument};
 ghost use Rattle.exo_tree.specs.PlainStatement.{statement};
 ghost use Rattle.exo_tree.specs.PlainUnit.{program};
 ghost use Rattle.step_rules.specs.Shapes.{alone_in};
@@ -9,10 +8,10 @@ ghost use Rattle.loop_laws.specs.Nest.Fission as plain;
 ghost use Rattle.loop_rewrites.specs.Nest.PlainParting.{plain_parting, plain_write};
 
 use crate::nest::parting::PartingAt;
-use crate::shapes::only_statement;
 use exo_tree::{Arg, Block, FieldId, Id, Stmt, Unit};
 use std::alloc::{AllocError, Global};
 use step_fields::may_write;
+use step_targets::only_statement;
 use tree_mentions::{Names, in_argument};
 
 /// What a statement writes into a field.
@@ -51,7 +50,8 @@ fn write_in(s: &Stmt) -> Option<WriteAt<'_>>
 
 /// The write that is all of a block; None exactly where it is none.
 fn write_of(b: &Block) -> Option<WriteAt<'_>>
-    ensures { option_map plain_write result ≡ option_and_then plain.write_in (alone_in (block b.now)) }
+    ensures { option_map plain_write result
+        ≡ option_and_then plain.write_in (alone_in (block b.now)) }
 {
     match only_statement(b) {
         None => None,
@@ -60,10 +60,12 @@ fn write_of(b: &Block) -> Option<WriteAt<'_>>
 }
 
 impl PartingAt<'_> {
-    /// Whether a write has not the loop's variable, and is of a field that the second part does not write.
+    /// Whether a write has not the loop's variable, and is of a field that the second part does not
+    /// write.
     #[tactic(auto, using(crate::proofs::OfNest::Written::in_set, crate::proofs::OfNest::Written::no_field))]
     fn is_steady(&self, alloc: Global, unit: &Unit, w: &WriteAt<'_>) -> Result<bool, AllocError>
-        ensures { IfOk result (λ t. t ≡ plain.is_steady (program unit.now) (plain_parting self.now) (plain_write w.now)) }
+        ensures { IfOk result (λ t. t
+            ≡ plain.is_steady (program unit.now) (plain_parting self.now) (plain_write w.now)) }
     {
         let field = w.field.0 as usize;
         if field >= unit.fields.len() {
@@ -78,7 +80,8 @@ impl PartingAt<'_> {
 
     /// Whether the first part is one such write.
     pub(crate) fn writes_first(&self, alloc: Global, unit: &Unit) -> Result<bool, AllocError>
-        ensures { IfOk result (λ t. t ≡ plain.writes_first (program unit.now) (plain_parting self.now)) }
+        ensures { IfOk result (λ t. t
+            ≡ plain.writes_first (program unit.now) (plain_parting self.now)) }
     {
         match write_of(&self.first) {
             None => Ok(false),

@@ -19,8 +19,7 @@ use Rattle.meaning_laws.specs.Scoped.{has_binder}
 use Rattle.inplace_laws.specs.CallInPlace.{HaveTypes}
 use Rattle.inplace_laws.specs.InPlace.{makes}
 use Rattle.inplace_laws.specs.Inline.{is_param, MayInline}
-use Rattle.match_laws.specs.Simplify.SameControls.{OfEach}
-use Rattle.match_laws.specs.Simplify.SimplifiedBlocks.{IsRead}
+use Rattle.match_laws.specs.Inline.Known.{ReadAlong}
 use Rattle.match_laws.specs.Alike.{nameless}
 use Rattle.match_laws.specs.Names.{Names, names_of}
 use Rattle.match_laws.specs.Matched.{Arguments, matched}
@@ -34,7 +33,7 @@ use Rattle.match_laws.specs.Inline.Meets.{calls_alike}
 use Rattle.match_laws.specs.Inline.ReplaceRule.{with_block, MayReplace}
 use Rattle.match_laws.proofs.OfInline.FreshCallee.{fresh_conditions}
 use Rattle.match_laws.proofs.OfInline.InlineRule.{inline_rule}
-use Rattle.match_laws.proofs.OfInline.MatchRows.{each_place, known}
+use Rattle.match_laws.proofs.OfInline.MatchRows.{each_place, known, none_seen}
 use Rattle.match_laws.proofs.OfInline.ReplaceRule.{replace_rule}
 use Rattle.match_laws.proofs.OfInline.Rows.{named, lit, first, param, loop, fill_it}
 
@@ -76,13 +75,14 @@ fresh = with_fresh_ids 20 fill_it
 it_is_matched : matched own names fives fresh ≡ Arguments arguments
 it_is_matched = refl
 
-it_may_match : MayMatch own names fives fresh arguments
+it_may_match : MayMatch own names fives fresh arguments (λ x. false)
 it_may_match = record {
   kinds = refl;
   apart = refl;
   binders = refl;
   numbers = refl;
   stand = refl;
+  strides = ((refl, refl), (((refl, tt), tt), tt, tt), tt);
   calls = refl;
 }
 
@@ -214,34 +214,27 @@ may_call = fresh_conditions (λ f. Index) [] fill_it [] 20 of_callee
     (inlinable (with_block filler there body) (refl, refl) (refl, refl) (refl, refl))
     (stand_there (with_block filler there body) refl unit body)
 
-fives_read : (s : State) → OfEach unit (IsRead own) (nameless fives) s
+fives_read : (s : State) → ReadAlong unit own (nameless fives) s
 fives_read s = each_place unit (nameless fives) s (
   λ scene. ((known scene, refl), (known scene, refl)),
   (λ scene. (((known scene, refl), tt), tt), tt, tt),
   tt,
 )
 
-body_read : (s : State) → OfEach unit (IsRead own) (nameless body) s
-body_read s = each_place unit (nameless body) s (
-  λ scene. ((known scene, refl), (known scene, refl)),
-  (λ scene. (((known scene, refl), tt), tt), tt, tt),
-  tt,
-)
-
 may_replace : (args : List Argument) → Arguments arguments ≡ Arguments args
-    → MayReplace unit empty of_callee own names filler fresh 0 there args
+    → MayReplace unit empty of_callee own names filler fresh 0 there args (λ x. false)
 may_replace args e =
-    subst (λ z. MayReplace unit empty of_callee own names filler fresh 0 there z)
+    subst (λ z. MayReplace unit empty of_callee own names filler fresh 0 there z (λ x. false))
     (same_arguments arguments args e) (record {
       found = it_is_matched;
       match = it_may_match;
-      read = λ s u good come. (fives_read u, body_read u);
+      read = λ s u good come. (none_seen u.scene, fives_read u);
       call = may_call;
     })
 
 fives_are_called : Refines unit filler (with_block filler there call) []
 fives_are_called = replace_rule (λ f. Index) (fill_it ∷ []) filler first 1 there own names fill_it
-    0 call empty of_callee fresh refl refl may_replace
+    0 call empty of_callee fresh (λ x. false) refl refl may_replace
 
 -- ---- and the call is inlined again
 
@@ -289,13 +282,14 @@ the_part = Window 11 (Span (lit 2) (lit 6) ∷ []) ∷ []
 part_is_matched : matched own names part_filled rest_filled ≡ Arguments the_part
 part_is_matched = refl
 
-part_may_match : MayMatch own names part_filled rest_filled the_part
+part_may_match : MayMatch own names part_filled rest_filled the_part (λ x. false)
 part_may_match = record {
   kinds = refl;
   apart = refl;
   binders = refl;
   numbers = refl;
   stand = refl;
+  strides = ((refl, ((refl, refl, tt), tt)), tt, tt);
   calls = refl;
 }
 

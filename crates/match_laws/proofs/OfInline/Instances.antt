@@ -13,7 +13,7 @@ use Rattle.meaning_laws.proofs.Copies.{sound_law}
 use Rattle.meaning_laws.proofs.Parts.{some_injective}
 use Rattle.inplace_laws.specs.Inline.{MayInline}
 use Rattle.inplace_laws.proofs.Above.{above_law}
-use Rattle.match_laws.specs.Simplify.SameControls.{OfEach}
+use Rattle.match_laws.specs.Inline.Known.{ReadAlong}
 use Rattle.match_laws.specs.Simplify.SimplifiedBlocks.{standing, IsRead}
 use Rattle.match_laws.specs.Names.{Names}
 use Rattle.match_laws.specs.Matched.{Arguments, matched}
@@ -169,14 +169,18 @@ may_call = inline_conditions (λ f. Index) [] setter [] same_ids (λ x. false)
       rest = refl;
     }) (λ s u good come gs e. tt)
 
-set_is_read : (u : State) → OfEach above_it (IsRead own) sets u
-set_is_read u = each_of_one above_it (IsRead own) (Config 0 (ControlArg (Lit (pos 4)))) u refl
-    (λ t. (reads (standing t.scene) t.scene, refl))
+set_is_read : (u : State) → ReadAlong above_it own sets u
+set_is_read u c d t same come = (
+  reads (standing t.scene) t.scene,
+  each_of_one above_it (IsRead own) (Config 0 (ControlArg (Lit (pos 4)))) u refl
+      (λ t. (reads (standing t.scene) t.scene, refl)) c d t same come,
+)
 
 may_replace : (args : List Argument) → Arguments [] ≡ Arguments args
-    → MayReplace above_it empty (λ x. false) own no_names setting setter 0 block args
+    → MayReplace above_it empty (λ x. false) own no_names setting setter 0 block args (λ x. false)
 may_replace args e =
-    subst (λ z. MayReplace above_it empty (λ x. false) own no_names setting setter 0 block z)
+    subst (λ z. MayReplace above_it empty (λ x. false) own no_names setting setter 0 block z
+    (λ x. false))
     (same_arguments [] args e) (record {
       found = they_match;
       match = record {
@@ -185,15 +189,16 @@ may_replace args e =
         binders = refl;
         numbers = refl;
         stand = refl;
+        strides = (refl, tt, tt);
         calls = refl;
       };
-      read = λ s u good come. (set_is_read u, set_is_read u);
+      read = λ s u good come. (λ x h. absurd (true≢false (sym h)), set_is_read u);
       call = may_call;
     })
 
 replaced : Refines above_it setting (with_block setting block call) []
 replaced = replace_rule (λ f. Index) (setter ∷ []) setting first 1 block own no_names setter 0 call
-    empty (λ x. false) setter refl refl may_replace
+    empty (λ x. false) setter (λ x. false) refl refl may_replace
 
 -- ---- and with new ids
 

@@ -4,7 +4,7 @@ use Rattle.std.proofs.Common.{if◌then◌else◌, List, [], ◌∷◌, ◌++◌
 use Rattle.std.proofs.Common.{IfSome, Ok, refl, sym, ap, ap₂, subst, true≢false}
 use Rattle.std.proofs.Common.{eqb-true, eq-eqb, arith}
 use Rattle.std.specs.Prelude.{nat_lt}
-use Rattle.exo_tree.specs.Tree.{Control, Lit, Var, Field, StrideOf, Neg, Add, Sub, Mul, Div, Mod}
+use Rattle.exo_tree.specs.Tree.{Control, Lit, Var, StrideOf, Add}
 use Rattle.exo_tree.specs.Tree.{Coord, At, Span, Argument, ControlArg, ConditionArg, Whole, Window}
 use Rattle.exo_tree.specs.Tree.{ParamKind, ControlParam, TensorParam, WindowParam, Param}
 use Rattle.exo_tree.specs.Tree.{Block, Procedure}
@@ -13,17 +13,13 @@ use Rattle.exo_meaning.specs.Inputs.{is_buffer_of}
 use Rattle.exo_meaning.specs.Orders.{Each}
 use Rattle.exo_meaning.specs.Scene.{Scene, number}
 use Rattle.affine_forms.specs.Forms.{Reading, is_affine}
-use Rattle.exo_meaning.specs.Units.{is_of_literals}
-use Rattle.std.specs.Int.{is_positive}
 use Rattle.std.proofs.lemmas.Int.{ints}
-use Rattle.affine_forms.specs.Laws.{ReadsAt}
 use Rattle.affine_forms.proofs.Values.{and_parts, none_some, some_injective}
 use Rattle.meaning_laws.specs.Scoped.{has_binder}
 use Rattle.inplace_laws.specs.Along.{SameAlong}
 use Rattle.inplace_laws.specs.Inline.{inlined, is_view}
 use Rattle.inplace_laws.specs.Windows.{joined_coords, root_in, coords_of}
-use Rattle.match_laws.specs.Simplify.Simplified.{values_in}
-use Rattle.match_laws.specs.Simplify.SameControls.{OfCoords, OfEach}
+use Rattle.match_laws.specs.Simplify.SameControls.{OfCoords}
 use Rattle.match_laws.specs.Simplify.SimplifiedBlocks.{standing, IsRead}
 use Rattle.match_laws.specs.Names.{Names, Buffer, names_of}
 use Rattle.match_laws.specs.Fitting.{SameCoords, IsAffine, OfSpots, IsComposed}
@@ -52,8 +48,10 @@ use Rattle.match_laws.specs.Inline.AtOnce.{Put, puts, with_put, put_control, put
 use Rattle.match_laws.specs.Inline.AtOnce.{put_window, root_for, suits, all_suit}
 use Rattle.match_laws.specs.Inline.Meets.{Meets, PutsParams}
 use Rattle.match_laws.specs.Inline.MovedIsPut.{is_of_kind, are_of_kinds, HasBlockIds, Agrees}
-use Rattle.match_laws.specs.Inline.MatchLaw.{is_known, dims_if, dims_of, has_length, no_strides}
-use Rattle.match_laws.specs.Inline.MatchLaw.{are_strideless, are_strideless_if_known, has_one_id}
+use Rattle.match_laws.specs.Inline.Known.{strides_of, Sees, ReadsHere}
+use Rattle.match_laws.proofs.OfInline.Known.{wider}
+use Rattle.match_laws.specs.Inline.MatchLaw.{is_known, dims_if, dims_of, has_length}
+use Rattle.match_laws.specs.Inline.MatchLaw.{are_of_known, are_moved_of_known, has_one_id}
 use Rattle.match_laws.specs.Inline.MatchLaw.{have_one_id, stands, all_stand, no_buffer}
 use Rattle.match_laws.specs.Inline.MatchLaw.{numbers_are_numbers, MayMatch, MatchLaw, MatchRuns}
 use Rattle.match_laws.proofs.OfInline.AtOnce.{puts_keep, at_once, Keeps}
@@ -66,7 +64,7 @@ no h = absurd (true≢false (sym h))
 
 -- ---- one id for binders that correspond
 
-one_id : (pairs : List Pair) (x y : ℕ) → have_one_id pairs ≡ true → partner pairs x ≡ Some y
+pub one_id : (pairs : List Pair) (x y : ℕ) → have_one_id pairs ≡ true → partner pairs x ≡ Some y
     → x ≡ y
 one_id [] x y h k = absurd (none_some k)
 one_id (a ∷ pairs) x y h k =
@@ -131,46 +129,19 @@ suit_kinds (p ∷ ps) (a ∷ args) h =
 
 -- ---- coordinates
 
-wider : (scene : Scene) (e : Control) → is_affine no_strides e ≡ true
-    → is_affine (standing scene) e ≡ true
-wider scene (Lit n) h = refl
-wider scene (Var x) h = refl
-wider scene (Field f) h = refl
-wider scene (StrideOf x k) h = no h
-wider scene (Neg a) h = wider scene a h
-wider scene (Add a b) h =
-    let p = and_parts (is_affine no_strides a) (is_affine no_strides b) h in
-    ap₂ ◌&&◌ (wider scene a p.0) (wider scene b p.1)
-wider scene (Sub a b) h =
-    let p = and_parts (is_affine no_strides a) (is_affine no_strides b) h in
-    ap₂ ◌&&◌ (wider scene a p.0) (wider scene b p.1)
-wider scene (Mul a b) h =
-    let l = is_of_literals a || is_of_literals b in
-    let p = and_parts l (is_affine no_strides a && is_affine no_strides b) h in
-    let q = and_parts (is_affine no_strides a) (is_affine no_strides b) p.1 in
-    ap₂ ◌&&◌ p.0 (ap₂ ◌&&◌ (wider scene a q.0) (wider scene b q.1))
-wider scene (Div a c) h =
-    let p = and_parts (is_positive c) (is_affine no_strides a) h in
-    ap₂ ◌&&◌ p.0 (wider scene a p.1)
-wider scene (Mod a c) h =
-    let p = and_parts (is_positive c) (is_affine no_strides a) h in
-    ap₂ ◌&&◌ p.0 (wider scene a p.1)
-
-wide_coords : (scene : Scene) (cs : List Coord) → are_strideless cs ≡ true
-    → OfCoords (IsAffine (standing scene)) cs
-wide_coords scene [] h = tt
-wide_coords scene (At a ∷ cs) h =
-    let p = and_parts (is_affine no_strides a) (are_strideless cs) h in
-    (wider scene a p.0, wide_coords scene cs p.1)
-wide_coords scene (Span a b ∷ cs) h =
-    let p = and_parts (is_affine no_strides a) (is_affine no_strides b && are_strideless cs) h in
-    let q = and_parts (is_affine no_strides b) (are_strideless cs) p.1 in
-    (wider scene a p.0, wider scene b q.0, wide_coords scene cs q.1)
+wide_coords : (known : ℕ → Bool) (scene : Scene) → Sees known scene → (cs : List Coord)
+    → are_of_known known cs ≡ true → OfCoords (IsAffine (standing scene)) cs
+wide_coords known scene sees [] h = tt
+wide_coords known scene sees (At a ∷ cs) h =
+    let p = and_parts (is_affine (strides_of known) a) (are_of_known known cs) h in
+    (wider known scene sees a p.0, wide_coords known scene sees cs p.1)
+wide_coords known scene sees (Span a b ∷ cs) h =
+    let p = and_parts (is_affine (strides_of known) a)
+    (is_affine (strides_of known) b && are_of_known known cs) h in
+    let q = and_parts (is_affine (strides_of known) b) (are_of_known known cs) p.1 in
+    (wider known scene sees a p.0, wider known scene sees b q.0, wide_coords known scene sees cs q.1)
 
 -- what is read has its numbers where one coordinate is read
-abbrev ReadsHere : Reading → Scene → Type 0
-ReadsHere at scene = ReadsAt (standing scene) (values_in scene) at scene
-
 same_here : (at : Reading) (scene : Scene) (cs ds : List Coord)
     → OfCoords (IsRead at scene) cs → OfCoords (IsRead at scene) ds
     → (ReadsHere at scene → SameCoords scene cs ds) → SameCoords scene cs ds
@@ -278,20 +249,21 @@ put_length put (Span e f ∷ cs) = ap suc (put_length put cs)
 
 -- ---- accesses of a parameter
 
-abbrev use_stands : Moving → List Control → Use → Bool
-use_stands m dims u =
+abbrev use_stands : (ℕ → Bool) → Moving → List Control → Use → Bool
+use_stands known m dims u =
     (length dims == length u.ours)
-    && (are_strideless_if_known (coords_moved m u.ours) && are_strideless u.theirs)
+    && (are_moved_of_known known (coords_moved m u.ours) && are_of_known known u.theirs)
 
-abbrev UseMeets : Reading → Put → ℕ → Use → Type 0
-UseMeets at put x u =
+abbrev UseMeets : Reading → (ℕ → Bool) → Put → ℕ → Use → Type 0
+UseMeets at known put x u =
     (root_for put x ≡ u.name)
     × ((scene : Scene)
+    → Sees known scene
     → OfCoords (IsRead at scene) (put_window put x u.ours)
     → OfCoords (IsRead at scene) u.theirs
     → SameCoords scene (put_window put x u.ours) u.theirs)
 
-module _ (at : Reading) (m : Moving) (bound : ℕ → Bool) (put : Put)
+module _ (at : Reading) (known : ℕ → Bool) (m : Moving) (bound : ℕ → Bool) (put : Put)
     (controls : (e : Control) → IfSome (moved m e) (λ f. f ≡ put_control put e)) where
   names_one : (y : ℕ) (us : List Use) → all_of_name at m bound y us ≡ true
       → Each (λ u. u.name ≡ y) us
@@ -318,11 +290,11 @@ module _ (at : Reading) (m : Moving) (bound : ℕ → Bool) (put : Put)
       go None k = absurd (none_some k)
       go (Some rs) k = chosen (are_free at m bound rs && all_as at m bound listed rs us) rs k
 
-  spots_affine : (scene : Scene) → ReadsHere at scene → (listed : List Bool) (u : Use)
+  spots_affine : (scene : Scene) → Sees known scene → ReadsHere at scene → (listed : List Bool) (u : Use)
       (ss : List Spot) → spots at m bound listed u.ours u.theirs ≡ Some ss
-      → are_strideless_if_known (coords_moved m u.ours) ≡ true → are_strideless u.theirs ≡ true
+      → are_moved_of_known known (coords_moved m u.ours) ≡ true → are_of_known known u.theirs ≡ true
       → OfSpots (IsAffine (standing scene)) ss
-  spots_affine scene reads listed u ss e h k =
+  spots_affine scene sees reads listed u ss e h k =
       go (coords_moved m u.ours)
       (subst (λ o. IfSome o (λ rs. IfSome (coords_moved m u.ours) (λ cs.
       OfCoords (IsAffine (standing scene)) cs → OfCoords (IsAffine (standing scene)) u.theirs
@@ -331,20 +303,20 @@ module _ (at : Reading) (m : Moving) (bound : ℕ → Bool) (put : Put)
     where
       go : (q : Option (List Coord)) → IfSome q (λ cs.
           OfCoords (IsAffine (standing scene)) cs → OfCoords (IsAffine (standing scene)) u.theirs
-          → OfSpots (IsAffine (standing scene)) ss) → are_strideless_if_known q ≡ true
+          → OfSpots (IsAffine (standing scene)) ss) → are_moved_of_known known q ≡ true
           → OfSpots (IsAffine (standing scene)) ss
       go None i j = no j
-      go (Some cs) i j = i (wide_coords scene cs j) (wide_coords scene u.theirs k)
+      go (Some cs) i j = i (wide_coords known scene sees cs j) (wide_coords known scene sees u.theirs k)
 
   -- the access on the argument
   abbrev OnArgument : ℕ → ℕ → Use → Argument → Type 0
   OnArgument x y u a =
       (root_in a x ≡ y)
-      × ((scene : Scene) → ReadsHere at scene
+      × ((scene : Scene) → Sees known scene → ReadsHere at scene
       → SameCoords scene (joined_coords (coords_of a) (put_coords put u.ours)) u.theirs)
 
   on_window : (x y : ℕ) (u : Use) (cs : List Coord)
-      → ((scene : Scene) → ReadsHere at scene
+      → ((scene : Scene) → Sees known scene → ReadsHere at scene
       → SameCoords scene (joined_coords cs (put_coords put u.ours)) u.theirs)
       → OnArgument x y u (window_of at m bound y cs)
   on_window x y u [] h = (refl, h)
@@ -368,44 +340,44 @@ module _ (at : Reading) (m : Moving) (bound : ℕ → Bool) (put : Put)
           (name (and_parts b.tensor (are_at_zero at m bound ss) e).1)
 
   one_use : (x y : ℕ) (u : Use) (a : Argument) (whole : Bool) (b : Buffer)
-      (dims ds : List Control) (ss : List Spot) → use_stands m dims u ≡ true → u.name ≡ y
+      (dims ds : List Control) (ss : List Spot) → use_stands known m dims u ≡ true → u.name ≡ y
       → length ds ≡ length dims
-      → ((scene : Scene) → ReadsHere at scene → OfSpots (IsAffine (standing scene)) ss)
-      → ((scene : Scene) → ReadsHere at scene
+      → ((scene : Scene) → Sees known scene → ReadsHere at scene → OfSpots (IsAffine (standing scene)) ss)
+      → ((scene : Scene) → Sees known scene → ReadsHere at scene
       → IsComposed (standing scene) m scene (length ds) (coords_from at m bound ss ds) u)
       → argument_from at m bound whole b y ds ss ≡ Some a → put.name x ≡ a
-      → UseMeets at put x u
+      → UseMeets at known put x u
   one_use x y u a whole b dims ds ss st name len affine composed from is =
       let p = and_parts (length dims == length u.ours)
-      (are_strideless_if_known (coords_moved m u.ours) && are_strideless u.theirs) st in
-      let q = and_parts (are_strideless_if_known (coords_moved m u.ours))
-      (are_strideless u.theirs) p.1 in
+      (are_moved_of_known known (coords_moved m u.ours) && are_of_known known u.theirs) st in
+      let q = and_parts (are_moved_of_known known (coords_moved m u.ours))
+      (are_of_known known u.theirs) p.1 in
       let rank = len ∙ eqb-true (length dims) (length u.ours) p.0 in
       let on = by_argument (OnArgument x y u) whole b y ds ss a
-      (on_window x y u (coords_from at m bound ss ds) (λ scene reads. core q.0 q.1 (sym rank)
-      scene (composed scene reads)))
+      (on_window x y u (coords_from at m bound ss ds) (λ scene sees reads. core q.0 q.1 (sym rank)
+      scene sees (composed scene sees reads)))
       (λ zero. (
         refl,
-        λ scene reads. whole_coords at m bound scene reads ss ds
-            (put_coords put u.ours) u.theirs zero (affine scene reads)
+        λ scene sees reads. whole_coords at m bound scene reads ss ds
+            (put_coords put u.ours) u.theirs zero (affine scene sees reads)
             (put_length put u.ours ∙ sym rank)
-            (core q.0 q.1 (sym rank) scene (composed scene reads)),
+            (core q.0 q.1 (sym rank) scene sees (composed scene sees reads)),
       )) from in
       let there = subst (OnArgument x y u) (sym is) on in (
         there.0 ∙ sym name,
-        λ scene i j.
-            same_here at scene (put_window put x u.ours) u.theirs i j (there.1 scene),
+        λ scene sees i j.
+            same_here at scene (put_window put x u.ours) u.theirs i j (there.1 scene sees),
       )
     where
-      core : are_strideless_if_known (coords_moved m u.ours) ≡ true
-          → are_strideless u.theirs ≡ true → length u.ours ≡ length ds → (scene : Scene)
+      core : are_moved_of_known known (coords_moved m u.ours) ≡ true
+          → are_of_known known u.theirs ≡ true → length u.ours ≡ length ds → (scene : Scene) → Sees known scene
           → IsComposed (standing scene) m scene (length ds) (coords_from at m bound ss ds) u
           → SameCoords scene (joined_coords (coords_from at m bound ss ds) (put_coords put u.ours))
           u.theirs
-      core known plain long scene composed =
-          go (coords_moved m u.ours) known composed (coords_are m put controls u.ours)
+      core moves plain long scene sees composed =
+          go (coords_moved m u.ours) moves composed (coords_are m put controls u.ours)
         where
-          go : (q : Option (List Coord)) → are_strideless_if_known q ≡ true
+          go : (q : Option (List Coord)) → are_moved_of_known known q ≡ true
               → IfSome q (λ cs. length u.ours ≡ length ds
               → OfCoords (IsAffine (standing scene)) cs
               → OfCoords (IsAffine (standing scene)) u.theirs
@@ -416,45 +388,45 @@ module _ (at : Reading) (m : Moving) (bound : ℕ → Bool) (put : Put)
           go None k i e = no k
           go (Some cs) k i e =
               subst (λ r. SameCoords scene (joined_coords (coords_from at m bound ss ds) r)
-              u.theirs) e (i long (wide_coords scene cs k) (wide_coords scene u.theirs plain))
+              u.theirs) e (i long (wide_coords known scene sees cs k) (wide_coords known scene sees u.theirs plain))
 
   uses_meet : (x y : ℕ) (us : List Use) (a : Argument) (whole : Bool) (b : Buffer)
-      (dims ds : List Control) (ss : List Spot) → Each (λ u. use_stands m dims u ≡ true) us
+      (dims ds : List Control) (ss : List Spot) → Each (λ u. use_stands known m dims u ≡ true) us
       → Each (λ u. u.name ≡ y) us → length ds ≡ length dims
-      → ((scene : Scene) → ReadsHere at scene → OfSpots (IsAffine (standing scene)) ss)
-      → ((scene : Scene) → ReadsHere at scene
+      → ((scene : Scene) → Sees known scene → ReadsHere at scene → OfSpots (IsAffine (standing scene)) ss)
+      → ((scene : Scene) → Sees known scene → ReadsHere at scene
       → Each (IsComposed (standing scene) m scene (length ds) (coords_from at m bound ss ds)) us)
       → argument_from at m bound whole b y ds ss ≡ Some a → put.name x ≡ a
-      → Each (UseMeets at put x) us
+      → Each (UseMeets at known put x) us
   uses_meet x y [] a whole b dims ds ss st name len affine composed from is = tt
   uses_meet x y (u ∷ us) a whole b dims ds ss st name len affine composed from is = (
     one_use x y u a whole b dims ds ss st.0 name.0 len affine
-        (λ scene reads. (composed scene reads).0) from is,
+        (λ scene sees reads. (composed scene sees reads).0) from is,
     uses_meet x y us a whole b dims ds ss st.1 name.1 len affine
-        (λ scene reads. (composed scene reads).1) from is,
+        (λ scene sees reads. (composed scene sees reads).1) from is,
   )
 
   fitting_meets : (x : ℕ) (whole : Bool) (dims : List Control) (theirs : Names)
       (uses : List Use) (a : Argument)
       → IsFitting at m bound whole dims theirs uses a → put.name x ≡ a
-      → Each (λ u. use_stands m dims u ≡ true) uses → Each (UseMeets at put x) uses
+      → Each (λ u. use_stands known m dims u ≡ true) uses → Each (UseMeets at known put x) uses
   fitting_meets x whole dims theirs uses a f is st =
-      let all = subst (Each (λ u. use_stands m dims u ≡ true)) f.uses_are st in
+      let all = subst (Each (λ u. use_stands known m dims u ≡ true)) f.uses_are st in
       let p = and_parts (length dims == length f.first.ours)
-      (are_strideless_if_known (coords_moved m f.first.ours) && are_strideless f.first.theirs)
+      (are_moved_of_known known (coords_moved m f.first.ours) && are_of_known known f.first.theirs)
       all.0 in
-      let q = and_parts (are_strideless_if_known (coords_moved m f.first.ours))
-      (are_strideless f.first.theirs) p.1 in
-      let affine : (scene : Scene) → ReadsHere at scene
+      let q = and_parts (are_moved_of_known known (coords_moved m f.first.ours))
+      (are_of_known known f.first.theirs) p.1 in
+      let affine : (scene : Scene) → Sees known scene → ReadsHere at scene
       → OfSpots (IsAffine (standing scene)) f.spots
-      = λ scene reads. spots_affine scene reads f.listed f.first f.spots
+      = λ scene sees reads. spots_affine scene sees reads f.listed f.first f.spots
       (fitting_spots f.listed f.first f.others f.spots f.fits) q.0 q.1 in
-      subst (Each (UseMeets at put x)) (sym f.uses_are)
+      subst (Each (UseMeets at known put x)) (sym f.uses_are)
       (uses_meet x f.first.name (f.first ∷ f.others) a whole f.buffer dims f.dimensions f.spots
       all (refl, names_one f.first.name f.others f.one_name)
       (moved_length at m bound dims f.dimensions f.dimensions_are) affine
-      (λ scene reads. fitting_law (standing scene) at m bound scene f.listed f.first f.others
-      f.spots f.dimensions f.fits reads (affine scene reads)) f.argument is)
+      (λ scene sees reads. fitting_law (standing scene) at m bound scene f.listed f.first f.others
+      f.spots f.dimensions f.fits reads (affine scene sees reads)) f.argument is)
 
 -- ---- the walk's numbers
 
@@ -690,20 +662,20 @@ known_has : {A : Type 0} (P : Type 0) (o : Option A) → is_known o ≡ true →
 known_has P None h k = no h
 known_has P (Some a) h k = k
 
-module _ (at : Reading) (by m : Moving) (put : Put) (ps : List Param) where
+module _ (at : Reading) (known : ℕ → Bool) (by m : Moving) (put : Put) (ps : List Param) where
   abbrev StandUses : List Pair → Type 0
   StandUses pairs =
       (x : ℕ) (dims : List Control) → dims_of ps x ≡ Some dims
-      → Each (λ u. use_stands by dims u ≡ true) (uses_of x pairs)
+      → Each (λ u. use_stands known by dims u ≡ true) (uses_of x pairs)
 
-  stand_uses : (pairs : List Pair) → all_stand by m ps pairs ≡ true → StandUses pairs
+  stand_uses : (pairs : List Pair) → all_stand known by m ps pairs ≡ true → StandUses pairs
   stand_uses [] h x dims e = tt
   stand_uses (a ∷ pairs) h x dims e =
-      let p = and_parts (stands by m ps a) (all_stand by m ps pairs) h in
+      let p = and_parts (stands known by m ps a) (all_stand known by m ps pairs) h in
       first a p.0 (stand_uses pairs p.1 x dims e)
     where
       Those : List Use → Type 0
-      Those = Each (λ u. use_stands by dims u ≡ true)
+      Those = Each (λ u. use_stands known by dims u ≡ true)
 
       joined : (us : List Use) → Those us → Those (uses_of x pairs) → Those (us ++ uses_of x pairs)
       joined [] i rest = rest
@@ -711,17 +683,17 @@ module _ (at : Reading) (by m : Moving) (put : Put) (ps : List Param) where
 
       by_name : (u : Use) (y : ℕ) (t : Bool) → (y == x) ≡ t
           → (has_length (length u.ours) (dims_of ps y)
-          && (are_strideless_if_known (coords_moved by u.ours) && are_strideless u.theirs)) ≡ true
+          && (are_moved_of_known known (coords_moved by u.ours) && are_of_known known u.theirs)) ≡ true
           → Those (if t then u ∷ [] else [])
       by_name u y true i k = (
         subst (λ o. (has_length (length u.ours) o
-            && (are_strideless_if_known (coords_moved by u.ours) && are_strideless u.theirs)) ≡ true)
+            && (are_moved_of_known known (coords_moved by u.ours) && are_of_known known u.theirs)) ≡ true)
             (ap (dims_of ps) (eqb-true y x i) ∙ e) k,
         tt,
       )
       by_name u y false i k = tt
 
-      first : (a : Pair) → stands by m ps a ≡ true → Those (uses_of x pairs)
+      first : (a : Pair) → stands known by m ps a ≡ true → Those (uses_of x pairs)
           → Those (use_in x a ++ uses_of x pairs)
       first (Numbers p whole b g) i rest = rest
       first (Truths p whole c d) i rest = rest
@@ -736,11 +708,11 @@ module _ (at : Reading) (by m : Moving) (put : Put) (ps : List Param) where
   abbrev UsesMeet : List Pair → Type 0
   UsesMeet pairs =
       (x : ℕ) (dims : List Control) → dims_of ps x ≡ Some dims
-      → Each (UseMeets at put x) (uses_of x pairs)
+      → Each (UseMeets at known put x) (uses_of x pairs)
 
-  pair_meets : (a : Pair) → Agrees at m put a → stands by m ps a ≡ true → has_one_id a ≡ true
+  pair_meets : (a : Pair) → Agrees at m put a → stands known by m ps a ≡ true → has_one_id a ≡ true
       → ((x : ℕ) (dims : List Control) → dims_of ps x ≡ Some dims
-      → Each (UseMeets at put x) (use_in x a)) → Meets at put a
+      → Each (UseMeets at known put x) (use_in x a)) → Meets at known put a
   pair_meets (Numbers p whole e g) h i j u =
       known_has (agree at (put_control put e) g ≡ true) (moved m e) i h
   pair_meets (Truths p whole c d) h i j u =
@@ -749,40 +721,40 @@ module _ (at : Reading) (by m : Moving) (put : Put) (ps : List Param) where
   pair_meets (Own p x y) h i j u = h
   pair_meets (Access p x cs y ds) h i j u = go (dims_of ps x) refl
       (and_parts (has_length (length cs) (dims_of ps x))
-      (are_strideless_if_known (coords_moved by cs) && are_strideless ds) i).0
+      (are_moved_of_known known (coords_moved by cs) && are_of_known known ds) i).0
     where
       this : Use
       this = record { path = p; ours = cs; name = y; theirs = ds }
 
-      it : (t : Bool) → t ≡ true → Each (UseMeets at put x) (if t then this ∷ [] else [])
-          → UseMeets at put x this
+      it : (t : Bool) → t ≡ true → Each (UseMeets at known put x) (if t then this ∷ [] else [])
+          → UseMeets at known put x this
       it true e k = k.0
       it false e k = no e
 
       go : (o : Option (List Control)) → dims_of ps x ≡ o → has_length (length cs) o ≡ true
-          → UseMeets at put x this
+          → UseMeets at known put x this
       go None e k = no k
       go (Some dims) e k = it (x == x) (eq-eqb x x refl) (u x dims e)
   pair_meets (Unlike p) h i j u = h
 
   pairs_meet : (pairs : List Pair) → Each (Agrees at m put) pairs
-      → all_stand by m ps pairs ≡ true → have_one_id pairs ≡ true → UsesMeet pairs
-      → Each (Meets at put) pairs
+      → all_stand known by m ps pairs ≡ true → have_one_id pairs ≡ true → UsesMeet pairs
+      → Each (Meets at known put) pairs
   pairs_meet [] h i j u = tt
   pairs_meet (a ∷ pairs) h i j u =
-      let p = and_parts (stands by m ps a) (all_stand by m ps pairs) i in
+      let p = and_parts (stands known by m ps a) (all_stand known by m ps pairs) i in
       let q = and_parts (has_one_id a) (have_one_id pairs) j in (
         pair_meets a h.0 p.0 q.0 (λ x dims e.
-            (each_split (UseMeets at put x) (use_in x a) (uses_of x pairs) (u x dims e)).0),
+            (each_split (UseMeets at known put x) (use_in x a) (uses_of x pairs) (u x dims e)).0),
         pairs_meet pairs h.1 p.1 q.1 (λ x dims e.
-            (each_split (UseMeets at put x) (use_in x a) (uses_of x pairs) (u x dims e)).1),
+            (each_split (UseMeets at known put x) (use_in x a) (uses_of x pairs) (u x dims e)).1),
       )
 
 -- ---- the law
 
 module _ (at : Reading) (theirs : Names) (block : Block) (q : Procedure) (args : List Argument)
-    (found_it : matched at theirs block q ≡ Arguments args)
-    (may : MayMatch at theirs block q args) where
+    (known : ℕ → Bool) (found_it : matched at theirs block q ≡ Arguments args)
+    (may : MayMatch at theirs block q args known) where
   abbrev argument_put : Put
   argument_put = puts q.params args
 
@@ -795,7 +767,7 @@ module _ (at : Reading) (theirs : Names) (block : Block) (q : Procedure) (args :
   it : IsMatch at theirs block q args
   it = matched_fits at theirs block q args found_it
 
-  those_uses : UsesMeet at (by_walk at theirs block q) (given_names at theirs block q args)
+  those_uses : UsesMeet at known (by_walk at theirs block q) (given_names at theirs block q args)
       argument_put q.params those
   those_uses x dims e =
       let g = buffer_given at theirs block q q.params args x dims it.given e in
@@ -805,18 +777,18 @@ module _ (at : Reading) (theirs : Names) (block : Block) (q : Procedure) (args :
       dims theirs uses) (first_path uses) g.2 in
       let fit = argument_fits at (by_walk at theirs block q) (has_binder block) whole dims theirs
       uses g.1 some in
-      let here = stand_uses at (by_walk at theirs block q) (given_names at theirs block q args)
+      let here = stand_uses at known (by_walk at theirs block q) (given_names at theirs block q args)
       argument_put q.params those may.stand x dims e in
-      subst (λ pairs. Each (UseMeets at argument_put x) (uses_of x pairs)) it.walked
-      (fitting_meets at (by_walk at theirs block q) (has_binder block) argument_put
+      subst (λ pairs. Each (UseMeets at known argument_put x) (uses_of x pairs)) it.walked
+      (fitting_meets at known (by_walk at theirs block q) (has_binder block) argument_put
       (walk_is_put at theirs block q args it.given may.kinds may.numbers block_ids)
       x whole dims theirs uses g.1 fit g.3
-      (subst (λ pairs. Each (λ u. use_stands (by_walk at theirs block q) dims u ≡ true)
+      (subst (λ pairs. Each (λ u. use_stands known (by_walk at theirs block q) dims u ≡ true)
       (uses_of x pairs)) (sym it.walked) here))
 
-  those_meet : Each (Meets at argument_put) those
+  those_meet : Each (Meets at known argument_put) those
   those_meet =
-      pairs_meet at (by_walk at theirs block q) (given_names at theirs block q args) argument_put
+      pairs_meet at known (by_walk at theirs block q) (given_names at theirs block q args) argument_put
       q.params those (matched_agrees at theirs block q args found_it block_ids may.kinds)
       may.stand may.binders those_uses
 
@@ -827,18 +799,17 @@ module _ (at : Reading) (theirs : Names) (block : Block) (q : Procedure) (args :
   }
 
 pub match_law : MatchLaw
-match_law world at theirs block q args s e may kd kb =
+match_law world at theirs block q args known s e may sees read =
     let same = at_once q.params args q.body (suit_kinds q.params args may.kinds) may.apart in
     subst (λ b. SameAlong world (nameless block) (nameless b) s) (sym same)
-    (meets_along world at (puts q.params args) (params at theirs block q) (has_binder block)
-    (names_of q) theirs q.body block s (puts_params at theirs block q args e may)
-    (those_meet at theirs block q args e may) may.calls kd
-    (subst (λ b. OfEach world (IsRead at) (nameless b) s) same kb))
+    (meets_along world at known (puts q.params args) (params at theirs block q) (has_binder block)
+    (names_of q) theirs q.body block s (puts_params at theirs block q args known e may)
+    (those_meet at theirs block q args known e may) may.calls may.strides sees read)
 
 pub match_runs : MatchRuns
-match_runs world at theirs block q args s e may kd kb =
+match_runs world at theirs block q args known s e may sees read =
     let body = inlined q.params args q.body in
     ap (λ f. f s) (sym (run_nameless world block))
     ∙ along_law world (nameless block) (nameless body) s
-    (match_law world at theirs block q args s e may kd kb)
+    (match_law world at theirs block q args known s e may sees read)
     ∙ ap (λ f. f s) (run_nameless world body)

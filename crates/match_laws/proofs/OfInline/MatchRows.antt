@@ -1,5 +1,5 @@
 -- The load of the product and a copied row do what the callees' bodies do.
-use Rattle.std.proofs.Common.{◌≡◌, refl, subst}
+use Rattle.std.proofs.Common.{◌≡◌, false, refl, sym, subst, true≢false}
 use Rattle.exo_tree.specs.Tree.{Statement, Assign, Reduce, Config, Pass, If, For, Alloc}
 use Rattle.exo_tree.specs.Tree.{View, Call, Block, end, next}
 use Rattle.exo_tree.specs.Context.{Context, Here, After, InLoop, InThen, InElse, fill}
@@ -9,10 +9,11 @@ use Rattle.exo_meaning.specs.Run.{World, run}
 use Rattle.affine_forms.specs.Laws.{ReadsAt}
 use Rattle.match_laws.specs.Simplify.Simplified.{values_in}
 use Rattle.inplace_laws.specs.Along.{SameAlong}
-use Rattle.match_laws.specs.Simplify.SameControls.{OfStatement, OfEach}
+use Rattle.match_laws.specs.Simplify.SameControls.{OfStatement}
 use Rattle.match_laws.specs.Simplify.SimplifiedBlocks.{standing, IsRead}
 use Rattle.match_laws.specs.Alike.{nameless}
 use Rattle.match_laws.proofs.Instances.{own, loaded, product, reads, rows, world}
+use Rattle.match_laws.specs.Inline.Known.{Sees, ReadAlong}
 use Rattle.match_laws.proofs.OfInline.MatchLaw.{match_law, match_runs}
 use Rattle.match_laws.proofs.OfInline.ReplaceRows.{load, copy_here, inlined_load, load_is_matched}
 use Rattle.match_laws.proofs.OfInline.ReplaceRows.{load_may_match, row_loop, row_here, row_arguments}
@@ -47,29 +48,24 @@ module _ (P : Statement → Type 0) where
 abbrev pub Everywhere : Block → Type 0
 Everywhere = OfAll (λ a. (scene : Scene) → OfStatement (IsRead own scene) a)
 
-pub each_place : (w : World) (b : Block) (s : State) → Everywhere b → OfEach w (IsRead own) b s
-each_place w b s h c d u same come =
-    in_hole (λ a. (scene : Scene) → OfStatement (IsRead own scene) a) c d
-    (subst Everywhere same h) u.scene
-
 pub known : (scene : Scene) → ReadsAt (standing scene) (values_in scene) own scene
 known scene = reads (standing scene) scene
 
--- ---- the load
-
-load_read : (s : State) → OfEach world (IsRead own) (nameless load) s
-load_read s = each_place world (nameless load) s (
-  λ scene. ((known scene, refl), (known scene, refl)),
-  (
-    λ scene. (((known scene, refl), tt), ((known scene, refl), ((known scene, refl), tt))),
-    tt,
-    tt,
-  ),
-  tt,
+pub each_place : (w : World) (b : Block) (s : State) → Everywhere b → ReadAlong w own b s
+each_place w b s h c d u same come = (
+  known u.scene,
+  in_hole (λ a. (scene : Scene) → OfStatement (IsRead own scene) a) c d (subst Everywhere same h)
+      u.scene,
 )
 
-load_body_read : (s : State) → OfEach world (IsRead own) (nameless (inlined_load copy_here)) s
-load_body_read s = each_place world (nameless (inlined_load copy_here)) s (
+-- no names need to be known
+pub none_seen : (scene : Scene) → Sees (λ x. false) scene
+none_seen scene x h = absurd (true≢false (sym h))
+
+-- ---- the load
+
+load_read : (s : State) → ReadAlong world own (nameless load) s
+load_read s = each_place world (nameless load) s (
   λ scene. ((known scene, refl), (known scene, refl)),
   (
     λ scene. (((known scene, refl), tt), ((known scene, refl), ((known scene, refl), tt))),
@@ -82,24 +78,13 @@ load_body_read s = each_place world (nameless (inlined_load copy_here)) s (
 load_is_the_copy : (s : State)
     → SameAlong world (nameless load) (nameless (inlined_load copy_here)) s
 load_is_the_copy s =
-    match_law world own product load copy_here loaded s load_is_matched load_may_match
-    (load_read s) (load_body_read s)
+    match_law world own product load copy_here loaded (λ x. false) s load_is_matched load_may_match
+    (none_seen s.scene) (load_read s)
 
 -- ---- the row, copied by a callee with a control parameter and two windows
 
-row_read : (s : State) → OfEach world (IsRead own) (nameless row_loop) s
+row_read : (s : State) → ReadAlong world own (nameless row_loop) s
 row_read s = each_place world (nameless row_loop) s (
-  λ scene. ((known scene, refl), (known scene, refl)),
-  (
-    λ scene. (((known scene, refl), ((known scene, refl), tt)), ((known scene, refl), tt)),
-    tt,
-    tt,
-  ),
-  tt,
-)
-
-row_body_read : (s : State) → OfEach world (IsRead own) (nameless (inlined_row row_here)) s
-row_body_read s = each_place world (nameless (inlined_row row_here)) s (
   λ scene. ((known scene, refl), (known scene, refl)),
   (
     λ scene. (((known scene, refl), ((known scene, refl), tt)), ((known scene, refl), tt)),
@@ -111,5 +96,5 @@ row_body_read s = each_place world (nameless (inlined_row row_here)) s (
 
 row_runs_as_the_copy : (s : State) → run world row_loop s ≡ run world (inlined_row row_here) s
 row_runs_as_the_copy s =
-    match_runs world own rows row_loop row_here row_arguments s row_is_matched row_may_match
-    (row_read s) (row_body_read s)
+    match_runs world own rows row_loop row_here row_arguments (λ x. false) s row_is_matched
+    row_may_match (none_seen s.scene) (row_read s)

@@ -1,6 +1,6 @@
 -- A block does what a callee's body does, where each pair of their walk meets.
 use Rattle.std.proofs.Common.{◌≡◌, ◌∙◌, ℕ, suc, ◌+ℤ◌, ◌-ℤ◌, ◌*ℤ◌, ◌==◌, pos}
-use Rattle.std.proofs.Common.{Bool, true, false, ◌&&◌, if◌then◌else◌, List, [], ◌∷◌, ◌++◌, Option}
+use Rattle.std.proofs.Common.{Bool, true, false, ◌&&◌, ◌||◌, if◌then◌else◌, List, [], ◌∷◌, ◌++◌, Option}
 use Rattle.std.proofs.Common.{Some, None, option_map, refl, sym, ap, ap₂, subst, true≢false}
 use Rattle.std.proofs.Common.{eqb-true}
 use Rattle.std.specs.Ordering.{int_eq}
@@ -8,15 +8,14 @@ use Rattle.exo_tree.specs.Tree.{Binder, Control, Condition, Datum, Const, Read, 
 use Rattle.exo_tree.specs.Tree.{Minus, Times, Select, Coord, At, Span, Argument, ControlArg}
 use Rattle.exo_tree.specs.Tree.{ConditionArg, Whole, Window, Statement, Assign, Reduce, Config}
 use Rattle.exo_tree.specs.Tree.{Pass, If, For, Alloc, View, Call, Block, end, next}
-use Rattle.exo_tree.specs.Context.{Here, After, InThen, InElse}
 use Rattle.exo_tree.specs.Places.{Branch, Main, Else, Path}
 use Rattle.exo_meaning.specs.Orders.{Each}
 use Rattle.exo_meaning.specs.Value.{Value, Number, on_two, on_one, on_four, relu, selected}
 use Rattle.exo_meaning.specs.Scene.{Scene, then_do, number, numbers, holds, window, where_true}
 use Rattle.exo_meaning.specs.State.{State, Place, place, held, put as put_at, value, on_scene}
-use Rattle.exo_meaning.specs.State.{with_field, with_view}
+use Rattle.exo_meaning.specs.State.{with_field, with_view, with_control}
 use Rattle.exo_meaning.specs.Calls.{GivenNumber, GivenView, given, all_given, truth, suits}
-use Rattle.exo_meaning.specs.Run.{World, argument_number, allocate, call_to}
+use Rattle.exo_meaning.specs.Run.{World, step, turns_of, argument_number, allocate, call_to}
 use Rattle.affine_forms.specs.Forms.{Reading}
 use Rattle.affine_forms.proofs.Values.{and_parts, int_eq_same}
 use Rattle.inplace_laws.specs.Along.{SameAlong, both_end, both_next, SameThere, at_once}
@@ -24,7 +23,7 @@ use Rattle.inplace_laws.specs.Along.{in_branches, in_turns}
 use Rattle.inplace_laws.specs.Inline.{is_view}
 use Rattle.inplace_laws.specs.Windows.{shifted, joined_coords, root_in, coords_of}
 use Rattle.match_laws.specs.Simplify.SameControls.{OfControls, OfCondition, OfDatum, OfCoords, OfArgument}
-use Rattle.match_laws.specs.Simplify.SameControls.{OfArguments}
+use Rattle.match_laws.specs.Simplify.SameControls.{OfArguments, OfStatement}
 use Rattle.match_laws.specs.Simplify.SimplifiedBlocks.{IsRead}
 use Rattle.match_laws.specs.Names.{Names}
 use Rattle.match_laws.specs.Fitting.{SameCoords}
@@ -36,11 +35,17 @@ use Rattle.match_laws.specs.Pairs.{param_paired, access_paired, data_paired, arg
 use Rattle.match_laws.specs.Pairs.{arguments_paired, step_to, blocks_paired, statements_paired}
 use Rattle.match_laws.specs.Alike.{nameless, nameless_statement, nameless_binder}
 use Rattle.match_laws.proofs.Alike.{numbers_agree, conditions_same, given_same, calls_same}
-use Rattle.match_laws.proofs.Alike.{Keeps, by_turns, step_same}
+use Rattle.match_laws.proofs.Alike.{step_same}
+use Rattle.match_laws.proofs.OfSimplify.Along.{Along, Inside, along_of}
 use Rattle.match_laws.proofs.Fitting.{same_windows, same_places}
 use Rattle.match_laws.specs.Inline.AtOnce.{Put, put_control, put_controls, put_condition, put_index}
 use Rattle.match_laws.specs.Inline.AtOnce.{put_datum, put_coords, put_window, put_argument}
 use Rattle.match_laws.specs.Inline.AtOnce.{put_arguments, put_statement, put_block, root_for, coords_for}
+use Rattle.meaning_laws.specs.Sound.{binds}
+use Rattle.meaning_laws.proofs.Facts.{or_right}
+use Rattle.match_laws.specs.Inline.Known.{IsOfKnown, known_behind, AreOfKnown, AreOfKnownWithin}
+use Rattle.match_laws.specs.Inline.Known.{Sees, IsReadIn}
+use Rattle.match_laws.proofs.OfInline.Known.{statement_read, step_sees, turn_sees}
 use Rattle.match_laws.specs.Inline.Meets.{Meets, wholes_alike, all_wholes_alike}
 use Rattle.match_laws.specs.Inline.Meets.{calls_alike_in, calls_alike, PutsParams, MeetsAlong}
 
@@ -76,17 +81,33 @@ view_no_number scene (ConditionArg c) h = no h
 view_no_number scene (Whole y) h = refl
 view_no_number scene (Window y cs) h = refl
 
+-- names of binders do not matter for what is bound
+nameless_binds : (a : Statement) (x : ℕ) → binds (nameless_statement a) x ≡ binds a x
+nameless_binds (Assign y is e) x = refl
+nameless_binds (Reduce y is e) x = refl
+nameless_binds (Config f a) x = refl
+nameless_binds Pass x = refl
+nameless_binds (If c a b) x = refl
+nameless_binds (For i lo hi b) x = refl
+nameless_binds (Alloc y cell dims memory) x = refl
+nameless_binds (View w y cs) x = refl
+nameless_binds (Call k args) x = refl
+
+old_sees : (known : ℕ → Bool) (a : Statement) (t : State) → Sees (known_behind a known) t.scene
+    → Sees known t.scene
+old_sees known a t sees x h = sees x (or_right (binds a x) (known x) h)
+
 one_binder : (i j : Binder) → i.id ≡ j.id → nameless_binder i ≡ nameless_binder j
 one_binder i j e = ap (λ (n : ℕ). record { id = n; name = [] }) e
 
-module _ (at : Reading) (put : Put) (params bound : ℕ → Bool) (ours theirs : Names)
-    (puts : PutsParams params put) where
+module _ (at : Reading) (known : ℕ → Bool) (put : Put) (params bound : ℕ → Bool)
+    (ours theirs : Names) (puts : PutsParams params put) where
   abbrev All : List Pair → Type 0
-  All = Each (Meets at put)
+  All = Each (Meets at known put)
 
   -- ---- in one scene
 
-  module _ (scene : Scene) where
+  module _ (scene : Scene) (sees : Sees known scene) where
     abbrev Reads : Control → Type 0
     Reads = IsRead at scene
 
@@ -136,7 +157,7 @@ module _ (at : Reading) (put : Put) (params bound : ℕ → Bool) (ours theirs :
         by_bound : (t : Bool) → All (if t then Unlike p ∷ [] else Access p x cs y ds ∷ [])
             → SameAccess x cs y ds
         by_bound true k = absurd k.0
-        by_bound false k = (k.0.0, λ i j. k.0.1 scene j i)
+        by_bound false k = (k.0.0, λ i j. k.0.1 scene sees j i)
 
         by_param : (t : Bool) → params x ≡ t
             → All (if t then param_paired params bound ours theirs p x cs y ds
@@ -209,7 +230,7 @@ module _ (at : Reading) (put : Put) (params bound : ℕ → Bool) (ours theirs :
     all_meet p [] (b ∷ bs) h w i j = absurd h.0
     all_meet p (a ∷ as') [] h w i j = absurd h.0
     all_meet p (a ∷ as') (b ∷ bs) h w i j =
-        let k = each_split (Meets at put) (argument_paired params bound ours theirs p false a b)
+        let k = each_split (Meets at known put) (argument_paired params bound ours theirs p false a b)
         (arguments_paired params bound ours theirs p as' bs) h in
         let v = and_parts (wholes_alike at put a b) (all_wholes_alike at put as' bs) w in
         ap₂ (λ o r. then_do o (λ g. option_map (λ gs. g ∷ gs) r))
@@ -232,7 +253,7 @@ module _ (at : Reading) (put : Put) (params bound : ℕ → Bool) (ours theirs :
 
   -- ---- in one state
 
-  module _ (s : State) where
+  module _ (s : State) (sees : Sees known s.scene) where
     abbrev There : Control → Type 0
     There = IsRead at s.scene
 
@@ -240,7 +261,7 @@ module _ (at : Reading) (put : Put) (params bound : ℕ → Bool) (ours theirs :
         → All (data_paired params bound ours theirs p a c ++ data_paired params bound ours theirs p b d)
         → All (data_paired params bound ours theirs p a c) × All (data_paired params bound ours theirs p b d)
     two_meet p a b c d h =
-        each_split (Meets at put) (data_paired params bound ours theirs p a c)
+        each_split (Meets at known put) (data_paired params bound ours theirs p a c)
         (data_paired params bound ours theirs p b d) h
 
     value_meets : (p : Path) (e d : Datum) → All (data_paired params bound ours theirs p e d)
@@ -253,7 +274,7 @@ module _ (at : Reading) (put : Put) (params bound : ℕ → Bool) (ours theirs :
         go true e k = ap (λ z. Some (Number z)) (sym (int_eq_same m n e))
         go false e k = absurd k.0
     value_meets p (Read x is) (Read y js) h i j =
-        ap (option_map (held s.cells)) (place_meets s.scene p x is y js h i j)
+        ap (option_map (held s.cells)) (place_meets s.scene sees p x is y js h i j)
     value_meets p (Negated a) (Negated b) h i j =
         ap (option_map (on_one (λ m. pos 0 -ℤ m))) (value_meets p a b h i j)
     value_meets p (Relu a) (Relu b) h i j =
@@ -271,10 +292,10 @@ module _ (at : Reading) (put : Put) (params bound : ℕ → Bool) (ours theirs :
         ap₂ (λ m n. then_do m (λ u. option_map (on_two ◌*ℤ◌ u) n))
         (value_meets p a c k.0 i.0 j.0) (value_meets p b d k.1 i.1 j.1)
     value_meets p (Select a b c d) (Select e f g l) h i j =
-        let k = each_split (Meets at put) (data_paired params bound ours theirs p a e
+        let k = each_split (Meets at known put) (data_paired params bound ours theirs p a e
         ++ data_paired params bound ours theirs p b f ++ data_paired params bound ours theirs p c g)
         (data_paired params bound ours theirs p d l) h in
-        let m = each_split (Meets at put)
+        let m = each_split (Meets at known put)
         (data_paired params bound ours theirs p a e ++ data_paired params bound ours theirs p b f)
         (data_paired params bound ours theirs p c g) k.0 in
         let n = two_meet p a b e f m.0 in
@@ -295,18 +316,16 @@ module _ (at : Reading) (put : Put) (params bound : ℕ → Bool) (ours theirs :
   -- ---- along a run
 
   module _ (world : World) where
-    abbrev Kept : Block → State → Type 0
-    Kept = Keeps at world
-
     abbrev after : Statement → Statement
     after a = nameless_statement (put_statement put a)
 
-    abbrev within : Block → Block
-    within b = nameless (put_block put b)
+    abbrev within_body : Block → Block
+    within_body b = nameless (put_block put b)
 
     -- what is stored
     stored : (under : Path → Path) (x : ℕ) (is : List Control) (e : Datum) (y : ℕ)
-        (js : List Control) (d : Datum) (s : State) (f : Value → Value → Value)
+        (js : List Control) (d : Datum) (s : State) (sees : Sees known s.scene)
+        (f : Value → Value → Value)
         → All (access_paired params bound ours theirs (under []) x (points is) y (points js)
         ++ data_paired params bound ours theirs (under []) e d)
         → OfControls (IsRead at s.scene) js × OfDatum (IsRead at s.scene) d
@@ -316,122 +335,126 @@ module _ (at : Reading) (put : Put) (params bound : ℕ → Bool) (ours theirs :
         put_at s (λ old. f old v) z))
         ≡ then_do (place s.scene (root_for put x) (put_index put x is)) (λ z.
         then_do (value s (put_datum put e)) (λ v. put_at s (λ old. f old v) z))
-    stored under x is e y js d s f h i j =
-        let k = each_split (Meets at put)
+    stored under x is e y js d s sees f h i j =
+        let k = each_split (Meets at known put)
         (access_paired params bound ours theirs (under []) x (points is) y (points js))
         (data_paired params bound ours theirs (under []) e d) h in
         ap₂ (λ (o : Option Place) (r : Option Value). then_do o (λ z.
         then_do r (λ v. put_at s (λ old. f old v) z)))
-        (place_meets s.scene (under []) x is y js k.0 i.0 j.0)
-        (value_meets s (under []) e d k.1 i.1 j.1)
+        (place_meets s.scene sees (under []) x is y js k.0 i.0 j.0)
+        (value_meets s sees (under []) e d k.1 i.1 j.1)
+
+    -- what is read along the run
+    abbrev Kept : Block → State → Type 0
+    Kept = Along world (IsReadIn at)
+
+    -- what the expressions of a statement of the body read; grown: the names known here
+    module _ (grown : ℕ → Bool) (s : State) (more : Sees grown s.scene) where
+      abbrev Grown : Statement → Type 0
+      Grown a = OfStatement (IsOfKnown grown) (put_statement put a)
+
+      read_in : (a c : Statement) → Grown a → IsReadIn at s.scene c
+          → OfStatement (IsRead at s.scene) (put_statement put a)
+      read_in a c h k = statement_read at grown s.scene k.0 more (put_statement put a) h
 
     mutual
-      along : (under : Path → Path) (branch : Branch) (n : ℕ) (b d : Block) (s : State)
+      along : (under : Path → Path) (branch : Branch) (n : ℕ) (b d : Block) (grown : ℕ → Bool)
+          (s : State) → Sees known s.scene → Sees grown s.scene
           → All (blocks_paired params bound ours theirs under branch n b d)
-          → calls_alike at put b d ≡ true → Kept (nameless d) s → Kept (within b) s
-          → SameAlong world (nameless d) (within b) s
-      along under branch n end end s h w kd kb = both_end
-      along under branch n (next a b) (next c d) s h w kd kb =
-          let pairs = each_split (Meets at put)
+          → calls_alike at put b d ≡ true → AreOfKnown grown (put_block put b)
+          → Kept (nameless d) s → SameAlong world (nameless d) (within_body b) s
+      along under branch n end end grown s sees more h w ok kd = both_end
+      along under branch n (next a b) (next c d) grown s sees more h w ok kd =
+          let pairs = each_split (Meets at known put)
           (statements_paired params bound ours theirs (step_to params bound ours theirs under branch n) a c)
           (blocks_paired params bound ours theirs under branch (suc n) b d) h in
           let v = and_parts (calls_alike_in at put a c) (calls_alike at put b d) w in
-          let same = there (step_to params bound ours theirs under branch n) a c (nameless d) (within b) s pairs.0 v.0 kd kb
-          in
-          both_next same (λ t e. along under branch (suc n) b d t pairs.1 v.1
-          (λ k g u i come. kd (After (nameless_statement c) k) g u
-          (ap (next (nameless_statement c)) i) (t, e, come))
-          (λ k g u i come. kb (After (after a) k) g u (ap (next (after a)) i)
-          (t, sym (step_same at world (nameless_statement c) (after a) s same) ∙ e, come)))
-      along under branch n end (next c d) s h w kd kb = absurd h.0
-      along under branch n (next a b) end s h w kd kb = absurd h.0
+          let same = there (step_to params bound ours theirs under branch n) a c grown s sees more
+          pairs.0 v.0 ok.0 ok.1 kd.0 kd.1 in
+          both_next same (λ t e.
+          let f : step world (after a) s ≡ Some t
+          = sym (step_same at world (nameless_statement c) (after a) s same) ∙ e in
+          along under branch (suc n) b d (known_behind (put_statement put a) grown) t
+          (old_sees known (after a) t (step_sees world known (after a) s t f sees))
+          (λ x k. step_sees world grown (after a) s t f more x
+          (ap (λ z. z || grown x) (nameless_binds (put_statement put a) x) ∙ k))
+          pairs.1 v.1 ok.2 (kd.2 t e))
+      along under branch n end (next c d) grown s sees more h w ok kd = absurd h.0
+      along under branch n (next a b) end grown s sees more h w ok kd = absurd h.0
 
-      there : (under : Path → Path) (a c : Statement) (rest more : Block) (s : State)
+      there : (under : Path → Path) (a c : Statement) (grown : ℕ → Bool) (s : State)
+          → Sees known s.scene → (more : Sees grown s.scene)
           → All (statements_paired params bound ours theirs under a c)
-          → calls_alike_in at put a c ≡ true → Kept (next (nameless_statement c) rest) s
-          → Kept (next (after a) more) s
+          → calls_alike_in at put a c ≡ true → Grown grown s more a
+          → AreOfKnownWithin grown (put_statement put a)
+          → IsReadIn at s.scene (nameless_statement c)
+          → Inside world (IsReadIn at) (nameless_statement c) s
           → SameThere world (nameless_statement c) (after a) s
-      there under (Assign x is e) (Assign y js d) rest more s h w kd kb =
-          let i = kd (Here rest) (Assign y js d) s refl refl in
-          let j = kb (Here more) (after (Assign x is e)) s refl refl in
-          at_once (stored under x is e y js d s (λ old v. v) h i j)
-      there under (Reduce x is e) (Reduce y js d) rest more s h w kd kb =
-          let i = kd (Here rest) (Reduce y js d) s refl refl in
-          let j = kb (Here more) (after (Reduce x is e)) s refl refl in
-          at_once (stored under x is e y js d s (λ old v. on_two ◌+ℤ◌ old v) h i j)
-      there under (Config f a) (Config g b) rest more s h w kd kb =
-          let i = kd (Here rest) (Config g b) s refl refl in
-          let j = kb (Here more) (after (Config f a)) s refl refl in
+      there under (Assign x is e) (Assign y js d) grown s sees more h w ok within kd inside =
+          let j = read_in grown s more (Assign x is e) (Assign y js d) ok kd in
+          at_once (stored under x is e y js d s sees (λ old v. v) h kd.1 j)
+      there under (Reduce x is e) (Reduce y js d) grown s sees more h w ok within kd inside =
+          let j = read_in grown s more (Reduce x is e) (Reduce y js d) ok kd in
+          at_once (stored under x is e y js d s sees (λ old v. on_two ◌+ℤ◌ old v) h kd.1 j)
+      there under (Config f a) (Config g b) grown s sees more h w ok within kd inside =
+          let j = read_in grown s more (Config f a) (Config g b) ok kd in
           let k = where_like (f == g) (under [])
           (argument_paired params bound ours theirs (under []) true a b) h in
           at_once (ap₂ (λ k o. then_do o (λ n. where_true (suits (world.kinds k) n)
           (Some (on_scene (with_field k n) s)))) (sym (eqb-true f g k.0))
-          (number_told s.scene (under []) true a b k.1 i j))
-      there under Pass Pass rest more s h w kd kb = at_once refl
-      there under (If t a b) (If r c d) rest more s h w kd kb =
-          let i = kd (Here rest) (If r (nameless c) (nameless d)) s refl refl in
-          let j = kb (Here more) (after (If t a b)) s refl refl in
-          let same = condition_meets s.scene t r h.0 i j in
-          let k = each_split (Meets at put) (blocks_paired params bound ours theirs under Main 0 a c)
+          (number_told s.scene sees (under []) true a b k.1 kd.1 j))
+      there under Pass Pass grown s sees more h w ok within kd inside = at_once refl
+      there under (If t a b) (If r c d) grown s sees more h w ok within kd inside =
+          let j = read_in grown s more (If t a b) (If r c d) ok kd in
+          let same = condition_meets s.scene sees t r h.0 kd.1 j in
+          let k = each_split (Meets at known put) (blocks_paired params bound ours theirs under Main 0 a c)
           (blocks_paired params bound ours theirs under Else 0 b d) h.1 in
           let v = and_parts (calls_alike at put a c) (calls_alike at put b d) w in
-          let told = put_condition put t in
           in_branches same
-          (λ z. along under Main 0 a c s k.0 v.0
-          (λ l g u e come. kd (InThen r l (nameless d) rest) g u
-          (ap (λ x. next (If r x (nameless d)) rest) e) (z, come))
-          (λ l g u e come. kb (InThen told l (within b) more) g u
-          (ap (λ x. next (If told x (within b)) more) e) (sym same ∙ z, come)))
-          (λ z. along under Else 0 b d s k.1 v.1
-          (λ l g u e come. kd (InElse r (nameless c) l rest) g u
-          (ap (λ x. next (If r (nameless c) x) rest) e) (z, come))
-          (λ l g u e come. kb (InElse told (within a) l more) g u
-          (ap (λ x. next (If told (within a) x) more) e) (sym same ∙ z, come)))
-      there under (For i lo hi b) (For j l h d) rest more s pairs w kd kb =
-          let x = kd (Here rest) (nameless_statement (For j l h d)) s refl refl in
-          let y = kb (Here more) (after (For i lo hi b)) s refl refl in
-          let first = number_meets s.scene lo l pairs.0 x.0 y.0 in
-          let last = number_meets s.scene hi h pairs.1.0 x.1 y.1 in
+          (λ z. along under Main 0 a c grown s sees more k.0 v.0 within.0 (inside.0 z))
+          (λ z. along under Else 0 b d grown s sees more k.1 v.1 within.1 (inside.1 z))
+      there under (For i lo hi b) (For j l h d) grown s sees more pairs w ok within kd inside =
+          let y = read_in grown s more (For i lo hi b) (For j l h d) ok kd in
+          let first = number_meets s.scene sees lo l pairs.0 kd.1.0 y.0 in
+          let last = number_meets s.scene sees hi h pairs.1.0 kd.1.1 y.1 in
           let same = one_binder i j pairs.1.1.0 in
           let low = put_control put lo in
           let high = put_control put hi in
           subst (λ k. SameThere world (For (nameless_binder j) l h (nameless d))
-          (For k low high (within b)) s) (sym same)
-          (in_turns first last (λ n u come. by_turns at world (nameless_binder j) l h (nameless d)
-          low high (within b) rest more s
-          (λ v p q. along under Main 0 b d v pairs.1.1.1 w p q) first last kd
-          (subst (λ k. Kept (next (For k low high (within b)) more) s) same kb)
-          n u come))
-      there under (Alloc x cell dims memory) (Alloc y type extents store) rest more s h w kd kb =
-          let i = kd (Here rest) (nameless_statement (Alloc y type extents store)) s refl refl in
-          let j = kb (Here more) (after (Alloc x cell dims memory)) s refl refl in
+          (For k low high (within_body b)) s) (sym same)
+          (in_turns first last (λ n u come. along under Main 0 b d grown
+          (on_scene (with_control j.id n) u)
+          (turn_sees world known j.id (nameless d) (turns_of s.scene l h) s u n come sees)
+          (turn_sees world grown j.id (nameless d) (turns_of s.scene l h) s u n come more)
+          pairs.1.1.1 w within (inside n u come)))
+      there under (Alloc x cell dims memory) (Alloc y type extents store) grown s sees more h w ok within kd inside =
+          let j = read_in grown s more (Alloc x cell dims memory) (Alloc y type extents store) ok kd in
           let k = where_like (same_cell cell type && (memory == store)) (under [])
           (controls_paired params bound ours theirs (under []) dims extents ++ Binders x.id y.id ∷ []) h in
           let p = and_parts (same_cell cell type) (memory == store) k.0 in
-          let q = each_split (Meets at put)
+          let q = each_split (Meets at known put)
           (controls_paired params bound ours theirs (under []) dims extents) (Binders x.id y.id ∷ []) k.1 in
           at_once (ap₂ (λ z t. allocate z t (numbers s.scene extents) s) (sym q.1.0)
           (sym (same_cell_is cell type p.0))
           ∙ ap (λ ns. allocate x.id cell ns s)
-          (controls_meet s.scene (under []) dims extents q.0 i j))
-      there under (View v x cs) (View z y ds) rest more s h w kd kb =
-          let i = kd (Here rest) (nameless_statement (View z y ds)) s refl refl in
-          let j = kb (Here more) (after (View v x cs)) s refl refl in
-          let q = each_split (Meets at put)
+          (controls_meet s.scene sees (under []) dims extents q.0 kd.1 j))
+      there under (View v x cs) (View z y ds) grown s sees more h w ok within kd inside =
+          let j = read_in grown s more (View v x cs) (View z y ds) ok kd in
+          let q = each_split (Meets at known put)
           (access_paired params bound ours theirs (under []) x cs y ds) (Binders v.id z.id ∷ []) h in
           at_once (ap₂ (λ k o. then_do o (λ r. Some (on_scene (with_view k r) s)))
-          (sym q.1.0) (window_meets s.scene (under []) x cs y ds q.0 i j))
-      there under (Call k as') (Call m bs) rest more s h w kd kb =
-          let i = kd (Here rest) (Call m bs) s refl refl in
-          let j = kb (Here more) (after (Call k as')) s refl refl in
+          (sym q.1.0) (window_meets s.scene sees (under []) x cs y ds q.0 kd.1 j))
+      there under (Call k as') (Call m bs) grown s sees more h w ok within kd inside =
+          let j = read_in grown s more (Call k as') (Call m bs) ok kd in
           let q = where_like (k == m) (under [])
           (arguments_paired params bound ours theirs (under []) as' bs) h in
           at_once (calls_same at (world.callees m) bs (put_arguments put as') s
-          (all_meet s.scene (under []) as' bs q.1 w i j)
+          (all_meet s.scene sees (under []) as' bs q.1 w kd.1 j)
           ∙ ap (λ z. call_to (world.callees z) (put_arguments put as') s)
           (sym (eqb-true k m q.0)))
-      there under a c rest more s h w kd kb = absurd h.0
+      there under a c grown s sees more h w ok within kd inside = absurd h.0
 
 pub meets_along : MeetsAlong
-meets_along world at put params bound ours theirs b d s puts h w kd kb =
-    along at put params bound ours theirs puts world (λ path. path) Main 0 b d s h w kd kb
+meets_along world at known put params bound ours theirs b d s puts h w ok sees kd =
+    along at known put params bound ours theirs puts world (λ path. path) Main 0 b d known s sees sees
+    h w ok (along_of world (IsReadIn at) (nameless d) s kd)

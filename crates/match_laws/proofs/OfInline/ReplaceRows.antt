@@ -188,13 +188,14 @@ load_agrees = matched_agrees own product load copy_here loaded refl copy_has_blo
 pub load_is_matched : matched own product load copy_here ≡ Arguments loaded
 load_is_matched = refl
 
-pub load_may_match : MayMatch own product load copy_here loaded
+pub load_may_match : MayMatch own product load copy_here loaded (λ x. false)
 load_may_match = record {
   kinds = refl;
   apart = refl;
   binders = refl;
   numbers = refl;
   stand = refl;
+  strides = ((refl, refl), (((refl, tt), (refl, (refl, tt))), tt, tt), tt);
   calls = refl;
 }
 
@@ -204,12 +205,13 @@ row_here = renumbered as_in_row copy_n
 pub row_is_matched : matched own rows row_loop row_here ≡ Arguments row_arguments
 row_is_matched = refl
 
-pub row_may_match : MayMatch own rows row_loop row_here row_arguments
+pub row_may_match : MayMatch own rows row_loop row_here row_arguments (λ x. false)
 row_may_match = record {
   kinds = refl;
   apart = refl;
   binders = refl;
   numbers = refl;
   stand = refl;
+  strides = ((refl, refl), (((refl, (refl, tt)), (refl, tt)), tt, tt), tt);
   calls = refl;
 }

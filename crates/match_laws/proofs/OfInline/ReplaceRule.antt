@@ -40,7 +40,7 @@ refines_same world p o b r same by = record {
 }
 
 pub replace_rule : ReplaceRule
-replace_rule kinds ps p path n o at theirs q k made above own fresh opens draft may =
+replace_rule kinds ps p path n o at theirs q k made above own fresh known opens draft may =
     go (matched at theirs o.piece q) refl draft
   where
     go : (found : Matched) → matched at theirs o.piece q ≡ found
@@ -60,7 +60,7 @@ replace_rule kinds ps p path n o at theirs q k made above own fresh opens draft 
         (refines_same (unit_world kinds ps) p o body (with_block p o (next (Call k args) end))
         (same_runs_law (unit_world kinds ps) o.around o.piece body p
         (sym (opened_law n path p.body o opens))
-        (λ s u good come. match_runs (unit_world kinds ps) at theirs o.piece fresh args u m.found
+        (λ s u good come. match_runs (unit_world kinds ps) at theirs o.piece fresh args known u m.found
         m.match (m.read s u good come).0 (m.read s u good come).1))
         (replace_refines kinds ps (with_block p o body) fresh o.around k args above own refl
         m.call))

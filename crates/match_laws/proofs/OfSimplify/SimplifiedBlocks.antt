@@ -26,7 +26,7 @@ module _ (P Q : Control → Type 0) (by : (e : Control) → P e → Q e) where
   controls_by [] h = h
   controls_by (e ∷ es) h = (by e h.0, controls_by es h.1)
 
-  condition_by : (c : Condition) → OfCondition P c → OfCondition Q c
+  pub condition_by : (c : Condition) → OfCondition P c → OfCondition Q c
   condition_by True h = h
   condition_by False h = h
   condition_by (Flag x) h = h
@@ -55,7 +55,7 @@ module _ (P Q : Control → Type 0) (by : (e : Control) → P e → Q e) where
   coords_by (At a ∷ cs) h = (by a h.0, coords_by cs h.1)
   coords_by (Span a b ∷ cs) h = (by a h.0, by b h.1, coords_by cs h.2)
 
-  argument_by : (a : Argument) → OfArgument P a → OfArgument Q a
+  pub argument_by : (a : Argument) → OfArgument P a → OfArgument Q a
   argument_by (ControlArg e) h = by e h
   argument_by (ConditionArg c) h = condition_by c h
   argument_by (Whole x) h = h
@@ -65,7 +65,7 @@ module _ (P Q : Control → Type 0) (by : (e : Control) → P e → Q e) where
   arguments_by [] h = h
   arguments_by (a ∷ rest) h = (argument_by a h.0, arguments_by rest h.1)
 
-  statement_by : (d : Statement) → OfStatement P d → OfStatement Q d
+  pub statement_by : (d : Statement) → OfStatement P d → OfStatement Q d
   statement_by (Assign x is e) h = (controls_by is h.0, datum_by e h.1)
   statement_by (Reduce x is e) h = (controls_by is h.0, datum_by e h.1)
   statement_by (Config g a) h = argument_by a h

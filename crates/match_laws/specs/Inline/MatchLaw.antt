@@ -7,11 +7,9 @@ use Rattle.exo_meaning.specs.Inputs.{is_buffer_of}
 use Rattle.exo_meaning.specs.State.{State}
 use Rattle.exo_meaning.specs.Run.{World, run}
 use Rattle.exo_meaning.specs.Unseen.{in_arguments as arguments_mention}
-use Rattle.affine_forms.specs.Forms.{Reading, Allowed, is_affine}
+use Rattle.affine_forms.specs.Forms.{Reading, is_affine}
 use Rattle.inplace_laws.specs.Along.{SameAlong}
 use Rattle.inplace_laws.specs.Inline.{inlined}
-use Rattle.match_laws.specs.Simplify.SameControls.{OfEach}
-use Rattle.match_laws.specs.Simplify.SimplifiedBlocks.{IsRead}
 use Rattle.match_laws.specs.Names.{Names}
 use Rattle.match_laws.specs.Pairs.{Pair, Numbers, Truths, Binders, Own, Access, Unlike}
 use Rattle.match_laws.specs.Moved.{Moving, moved, moved_condition}
@@ -20,7 +18,8 @@ use Rattle.match_laws.specs.Matched.{Arguments, matched, params, all_pairs, walk
 use Rattle.match_laws.specs.Matched.{argument_in}
 use Rattle.match_laws.specs.MatchedFits.{given_names}
 use Rattle.match_laws.specs.Alike.{nameless}
-use Rattle.match_laws.specs.Inline.AtOnce.{puts}
+use Rattle.match_laws.specs.Inline.AtOnce.{puts, put_block}
+use Rattle.match_laws.specs.Inline.Known.{strides_of, AreOfKnown, Sees, ReadAlong}
 use Rattle.match_laws.specs.Inline.MovedIsPut.{are_of_kinds}
 use Rattle.match_laws.specs.Inline.Meets.{calls_alike}
 
@@ -42,19 +41,17 @@ abbrev pub has_length : ℕ → Option (List Control) → Bool
 has_length n None = false
 has_length n (Some dims) = length dims == n
 
--- affine, and without strides
-abbrev pub no_strides : Allowed
-no_strides = record { variable = λ x. true; field = λ f. true; stride = λ x k. false }
+-- affine, with no strides but those of known names
+module _ (known : ℕ → Bool) where
+  abbrev pub are_of_known : List Coord → Bool
+  are_of_known [] = true
+  are_of_known (At a ∷ cs) = is_affine (strides_of known) a && are_of_known cs
+  are_of_known (Span a b ∷ cs) =
+      is_affine (strides_of known) a && (is_affine (strides_of known) b && are_of_known cs)
 
-abbrev pub are_strideless : List Coord → Bool
-are_strideless [] = true
-are_strideless (At a ∷ cs) = is_affine no_strides a && are_strideless cs
-are_strideless (Span a b ∷ cs) =
-    is_affine no_strides a && (is_affine no_strides b && are_strideless cs)
-
-abbrev pub are_strideless_if_known : Option (List Coord) → Bool
-are_strideless_if_known None = false
-are_strideless_if_known (Some cs) = are_strideless cs
+  abbrev pub are_moved_of_known : Option (List Coord) → Bool
+  are_moved_of_known None = false
+  are_moved_of_known (Some cs) = are_of_known cs
 
 -- ---- what the rules of a callee give
 
@@ -69,8 +66,9 @@ have_one_id (a ∷ pairs) = has_one_id a && have_one_id pairs
 
 -- by: the callee's expressions in the block's names, as the walk determines them; m: the same with
 -- all arguments; ps: the callee's parameters. All that is read of them is known, and an access of a
--- parameter has as many coordinates as the parameter has dimensions, none of them with a stride
-module _ (by m : Moving) (ps : List Param) where
+-- parameter has as many coordinates as the parameter has dimensions, none of them with a stride but
+-- of known names
+module _ (known : ℕ → Bool) (by m : Moving) (ps : List Param) where
   abbrev pub stands : Pair → Bool
   stands (Numbers p whole e g) = is_known (moved m e)
   stands (Truths p whole c d) = is_known (moved_condition m c)
@@ -78,7 +76,7 @@ module _ (by m : Moving) (ps : List Param) where
   stands (Own p x y) = true
   stands (Access p x cs y ds) =
       has_length (length cs) (dims_of ps x)
-      && (are_strideless_if_known (coords_moved by cs) && are_strideless ds)
+      && (are_moved_of_known known (coords_moved by cs) && are_of_known known ds)
   stands (Unlike p) = true
 
   abbrev pub all_stand : List Pair → Bool
@@ -98,9 +96,10 @@ numbers_are_numbers found [] = true
 numbers_are_numbers found (p ∷ ps) =
     no_buffer p.kind (found p.binder.id) && numbers_are_numbers found ps
 
--- q: the callee, whose binders have the ids of the block's
+-- q: the callee, whose binders have the ids of the block's; known: names that stand for buffers
+-- where the block begins
 pub record MayMatch (at : Reading) (theirs : Names) (block : Block) (q : Procedure)
-    (args : List Argument) : Type 0 where
+    (args : List Argument) (known : ℕ → Bool) : Type 0 where
   -- buffers are given for buffers, and no argument mentions a parameter
   pub kinds : are_of_kinds q.params args ≡ true
   pub apart : arguments_mention (λ x. is_buffer_of x q.params) args ≡ false
@@ -110,29 +109,31 @@ pub record MayMatch (at : Reading) (theirs : Names) (block : Block) (q : Procedu
       q.params ≡ true
   -- each name of the body is a parameter or bound before; accesses of parameters have their rank
   pub stand :
-      all_stand (by_walk at theirs block q) (given_names at theirs block q args) q.params
+      all_stand known (by_walk at theirs block q) (given_names at theirs block q args) q.params
       (all_pairs at theirs block q) ≡ true
+  -- with the arguments, the body reads the strides of known names alone
+  pub strides : AreOfKnown known (put_block (puts q.params args) q.body)
   -- no name that the block gives whole in a call stands against a window
   pub calls : calls_alike at (puts q.params args) q.body block ≡ true
 
--- where what is read in both has its numbers along a run
+-- where what is read in the block has its numbers along a run
 abbrev pub MatchLaw : Type 0
 MatchLaw =
     (world : World) (at : Reading) (theirs : Names) (block : Block) (q : Procedure)
-    (args : List Argument) (s : State)
+    (args : List Argument) (known : ℕ → Bool) (s : State)
     → matched at theirs block q ≡ Arguments args
-    → MayMatch at theirs block q args
-    → OfEach world (IsRead at) (nameless block) s
-    → OfEach world (IsRead at) (nameless (inlined q.params args q.body)) s
+    → MayMatch at theirs block q args known
+    → Sees known s.scene
+    → ReadAlong world at (nameless block) s
     → SameAlong world (nameless block) (nameless (inlined q.params args q.body)) s
 
 -- so both run alike
 abbrev pub MatchRuns : Type 0
 MatchRuns =
     (world : World) (at : Reading) (theirs : Names) (block : Block) (q : Procedure)
-    (args : List Argument) (s : State)
+    (args : List Argument) (known : ℕ → Bool) (s : State)
     → matched at theirs block q ≡ Arguments args
-    → MayMatch at theirs block q args
-    → OfEach world (IsRead at) (nameless block) s
-    → OfEach world (IsRead at) (nameless (inlined q.params args q.body)) s
+    → MayMatch at theirs block q args known
+    → Sees known s.scene
+    → ReadAlong world at (nameless block) s
     → run world block s ≡ run world (inlined q.params args q.body) s

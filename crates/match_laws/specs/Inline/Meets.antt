@@ -9,16 +9,18 @@ use Rattle.exo_meaning.specs.Run.{World}
 use Rattle.affine_forms.specs.Forms.{Reading}
 use Rattle.inplace_laws.specs.Along.{SameAlong}
 use Rattle.inplace_laws.specs.Inline.{is_view}
-use Rattle.match_laws.specs.Simplify.SameControls.{OfCoords, OfEach}
+use Rattle.match_laws.specs.Simplify.SameControls.{OfCoords}
 use Rattle.match_laws.specs.Simplify.SimplifiedBlocks.{IsRead}
 use Rattle.match_laws.specs.Names.{Names}
 use Rattle.match_laws.specs.Fitting.{SameCoords}
 use Rattle.match_laws.specs.Moved.{agree, conditions_agree}
 use Rattle.match_laws.specs.Pairs.{Pair, Numbers, Truths, Binders, Own, Access, Unlike, paired}
 use Rattle.match_laws.specs.Alike.{arguments_alike, nameless}
+use Rattle.match_laws.specs.Inline.Known.{AreOfKnown, Sees, ReadAlong}
 use Rattle.match_laws.specs.Inline.AtOnce.{Put, put_control, put_condition, root_for, put_window, put_block}
 
-module _ (at : Reading) (put : Put) where
+-- known: names that stand for buffers where the block begins
+module _ (at : Reading) (known : ℕ → Bool) (put : Put) where
   -- expressions agree, binders are one, and an access is the access that stands against it
   abbrev pub Meets : Pair → Type 0
   Meets (Numbers p whole e g) = agree at (put_control put e) g ≡ true
@@ -28,6 +30,7 @@ module _ (at : Reading) (put : Put) where
   Meets (Access p x cs y ds) =
       (root_for put x ≡ y)
       × ((scene : Scene)
+      → Sees known scene
       → OfCoords (IsRead at scene) (put_window put x cs)
       → OfCoords (IsRead at scene) ds
       → SameCoords scene (put_window put x cs) ds)
@@ -63,14 +66,16 @@ pub record PutsParams (params : ℕ → Bool) (put : Put) : Type 0 where
   pub views : (x : ℕ) → is_view (put.name x) ≡ true
   pub own : (x : ℕ) → params x ≡ false → put.name x ≡ Whole x
 
--- then the block does what the callee's body does, along any run
+-- then the block does what the callee's body does, along any run in which what is read in the block
+-- has its numbers
 abbrev pub MeetsAlong : Type 0
 MeetsAlong =
-    (world : World) (at : Reading) (put : Put) (params bound : ℕ → Bool) (ours theirs : Names)
-    (b d : Block) (s : State)
+    (world : World) (at : Reading) (known : ℕ → Bool) (put : Put) (params bound : ℕ → Bool)
+    (ours theirs : Names) (b d : Block) (s : State)
     → PutsParams params put
-    → Each (Meets at put) (paired params bound ours theirs b d)
+    → Each (Meets at known put) (paired params bound ours theirs b d)
     → calls_alike at put b d ≡ true
-    → OfEach world (IsRead at) (nameless d) s
-    → OfEach world (IsRead at) (nameless (put_block put b)) s
+    → AreOfKnown known (put_block put b)
+    → Sees known s.scene
+    → ReadAlong world at (nameless d) s
     → SameAlong world (nameless d) (nameless (put_block put b)) s

@@ -12,12 +12,11 @@ use Rattle.exo_meaning.specs.Units.{share_nothing_written}
 use Rattle.meaning_laws.specs.Context.{ComesTo}
 use Rattle.affine_forms.specs.Forms.{Reading}
 use Rattle.inplace_laws.specs.Inline.{inlined, MayInline}
-use Rattle.match_laws.specs.Simplify.SameControls.{OfEach}
-use Rattle.match_laws.specs.Simplify.SimplifiedBlocks.{IsRead}
 use Rattle.match_laws.specs.Names.{Names}
 use Rattle.match_laws.specs.Matched.{Arguments, NoMatch, Undetermined, matched}
 use Rattle.match_laws.specs.Alike.{nameless}
 use Rattle.match_laws.specs.Inline.Pieces.{Piece, Shift}
+use Rattle.match_laws.specs.Inline.Known.{Sees, ReadAlong}
 use Rattle.match_laws.specs.Inline.MatchLaw.{MayMatch}
 
 -- why it refuses: the first statement of the callee's body that differs, the first parameter that
@@ -68,17 +67,17 @@ abbrev pub with_block : Procedure → Opened → Block → Procedure
 with_block p o b = record p { body = fill o.around b }
 
 -- fresh: the callee with the ids of the block's binders, and other ids for its parameters. It is
--- matched with the block too, what is read in the block and in the body with the arguments has its
--- numbers along runs, and the call may stand for that body
+-- matched with the block too, what is read in the block has its numbers along runs, and the call
+-- may stand for the body with the arguments; known: names that stand for buffers at the place
 pub record MayReplace (world above : World) (own : ℕ → Bool) (at : Reading) (theirs : Names)
-    (p fresh : Procedure) (k : ℕ) (o : Opened) (args : List Argument) : Type 0 where
+    (p fresh : Procedure) (k : ℕ) (o : Opened) (args : List Argument) (known : ℕ → Bool)
+    : Type 0 where
   pub found : matched at theirs o.piece fresh ≡ Arguments args
-  pub match : MayMatch at theirs o.piece fresh args
+  pub match : MayMatch at theirs o.piece fresh args known
   pub read : (s u : State)
       → IsAdmissible world p s
       → ComesTo world o.piece o.around s u
-      → OfEach world (IsRead at) (nameless o.piece) u
-      × OfEach world (IsRead at) (nameless (inlined fresh.params args fresh.body)) u
+      → Sees known u.scene × ReadAlong world at (nameless o.piece) u
   pub call :
       MayInline world above own (with_block p o (inlined fresh.params args fresh.body)) fresh
       o.around (inlined fresh.params args fresh.body) k args
@@ -87,10 +86,10 @@ abbrev pub ReplaceRule : Type 0
 ReplaceRule =
     (kinds : ℕ → Kind) (ps : List Procedure) (p : Procedure) (path : Path) (n : ℕ) (o : Opened)
     (at : Reading) (theirs : Names) (q : Procedure) (k : ℕ) (made : Block) (above : World)
-    (own : ℕ → Bool) (fresh : Procedure)
+    (own : ℕ → Bool) (fresh : Procedure) (known : ℕ → Bool)
     → let world = unit_world kinds ps in
     opened n path p.body ≡ Some o
     → replace_draft at theirs q k o.piece ≡ Some made
     → ((args : List Argument) → matched at theirs o.piece q ≡ Arguments args
-    → MayReplace world above own at theirs p fresh k o args)
+    → MayReplace world above own at theirs p fresh k o args known)
     → Refines world p (with_block p o made) []

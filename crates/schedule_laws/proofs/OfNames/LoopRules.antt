@@ -1,6 +1,7 @@
 -- The rules of expressions and of loops give names that were there, and those that are asked.
 use Rattle.std.proofs.Common.{◌≡◌, ◌+◌, ℕ, ℤ, Bool, true, false, if◌then◌else◌, List, [], ◌∷◌}
 use Rattle.std.proofs.Common.{Option, Some, None, option_map, option_and_then, subst, length}
+use Rattle.std.proofs.Common.{ap, ◌∙◌}
 use Rattle.exo_tree.specs.Tree.{Control, Condition, Datum, Statement, Assign, Reduce, Config, Pass}
 use Rattle.exo_tree.specs.Tree.{If, For, Alloc, View, Call, Block, end, next}
 use Rattle.exo_tree.specs.Renaming.{renaming, fresh, fresh_id, binders}
@@ -12,8 +13,9 @@ use Rattle.place_laws.specs.Scope.Scopes.{joined_all}
 use Rattle.place_laws.specs.Order.TurnsOfTwo.{Loop}
 use Rattle.match_laws.specs.Simplify.Simplified.{literal}
 use Rattle.cursor_patterns.specs.Patterns.{ExprPattern}
+use Rattle.cursor_forward.specs.Causes.{LimitPassed}
 use Rattle.cursor_forward.specs.Shifts.{Shift, stays}
-use Rattle.step_rules.specs.Rule.{Got}
+use Rattle.step_rules.specs.Rule.{Got, Not}
 use Rattle.step_rules.specs.Shapes.{alone_in}
 use Rattle.step_rules.proofs.Proposals.{then_got}
 use Rattle.step_rules.proofs.Shapes.{made_of}
@@ -31,7 +33,7 @@ use Rattle.loop_laws.specs.MultLoops.{multiplied, mult_rule}
 use Rattle.loop_laws.specs.ShiftLoop.{shifted, shift_rule}
 use Rattle.loop_laws.specs.Specialize.{specialize_rule}
 use Rattle.loop_laws.specs.UnrollLoop.{with_affine_bounds, turns_of, Unrolling, unrolling}
-use Rattle.loop_laws.specs.UnrollLoop.{turns_written, unroll_rule}
+use Rattle.loop_laws.specs.UnrollLoop.{turns_written, unroll_rule, are_too_many, with_few}
 use Rattle.loop_laws.proofs.Sites.{found_then, loop_of_is}
 use Rattle.loop_laws.proofs.DivideLoop.{divisible_is}
 use Rattle.schedule_laws.specs.Names.Rules.{IsNaming}
@@ -197,6 +199,14 @@ affine_same k l h = by _ h
     by true h = some_same h
     by false h = cc
 
+loop_of_few : (l : Loop) (ns : List ℤ) (u : Unrolling) → with_few l ns ≡ Got u → l ≡ u.loop
+loop_of_few l ns u h = by (are_too_many l ns) h
+  where
+    by : (t : Bool) → (if t then Not LimitPassed else Got (record { loop = l; turns = ns })) ≡ Got u
+        → l ≡ u.loop
+    by true h = cc
+    by false h = ap (λ (v : Unrolling). v.loop) (got_same h)
+
 unrolling_named : (b : Block) (u : Unrolling) → unrolling b ≡ Got u → IsNamedBlock b
     → IsNamedLoop u.loop
 unrolling_named b u found h =
@@ -204,9 +214,9 @@ unrolling_named b u found h =
     let a = then_got _ _ u found in
     let l = made_of read (λ l. l) a.0 a.1 in
     let k = found_then (loop_of b) with_affine_bounds l.of l.found in
-    let t = then_got (turns_of a.0) _ u a.2 in
-    subst (λ (v : Unrolling). IsNamedLoop v.loop) (got_same t.2)
-    (subst IsNamedLoop l.made (subst IsNamedLoop (affine_same k.0 l.of k.2) (loop_named b k.0 k.1 h)))
+    let t = then_got (turns_of a.0) (with_few a.0) u a.2 in
+    subst IsNamedLoop (l.made ∙ loop_of_few a.0 t.0 u t.2)
+    (subst IsNamedLoop (affine_same k.0 l.of k.2) (loop_named b k.0 k.1 h))
 
 bodies_named : (l : Loop) (ns : List ℤ) → IsNamedLoop l → Each IsNamedBlock (bodies_with literal l ns)
 bodies_named l [] h = tt

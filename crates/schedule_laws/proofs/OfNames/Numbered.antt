@@ -11,7 +11,7 @@ use Rattle.text_lexer.specs.Bytes.{goes_on_name}
 use Rattle.text_lexer.specs.Piece.{word_of}
 use Rattle.text_lexer.specs.declared.token.Word.{Word}
 use Rattle.text_lexer.specs.declared.token.Word.TheVariants as w
-use Rattle.text_show_laws.specs.Names.{IsName, AreNameBytes, BeginsName}
+use Rattle.text_show_laws.specs.Names.{IsName, AreNameBytes, BeginsName, Each}
 use Rattle.made_trees.specs.Names.{numbered}
 
 -- ---- digits
@@ -20,31 +20,100 @@ more_bytes : (x y : List ℕ) → AreNameBytes x → AreNameBytes y → AreNameB
 more_bytes [] y h k = k
 more_bytes (b ∷ x) y h k = (h.0, more_bytes x y h.1 k)
 
-glyph : (d : ℕ) → d < 10 → goes_on_name (digit_glyph false d) ≡ true
-glyph d l = grind (arith, nat_tests)
-
-last_glyph : (n : ℕ) → goes_on_name (digit_glyph false (n % 10)) ≡ true
-last_glyph n = glyph (n % 10) (omega arith)
-
-digits_named : (k n : ℕ) (acc : List ℕ) → AreNameBytes acc
-    → AreNameBytes (digits_onto k 10 false n acc)
-digits_named zero n acc h = h
-digits_named (suc k) n acc h =
-    let own : AreNameBytes (digit_glyph false (n % 10) ∷ acc) = (last_glyph n, h) in
-    by (n / 10 == 0) own (digits_named k (n / 10) (digit_glyph false (n % 10) ∷ acc) own)
+-- what holds of each digit holds of all of a number
+digits_each : (P : ℕ → Type 0) → ((d : ℕ) → d < 10 → P (digit_glyph false d)) → (k n : ℕ)
+    → (acc : List ℕ) → Each P acc → Each P (digits_onto k 10 false n acc)
+digits_each P each zero n acc h = h
+digits_each P each (suc k) n acc h =
+    let own : Each P (digit_glyph false (n % 10) ∷ acc) = (each (n % 10) (omega arith), h) in
+    by (n / 10 == 0) own (digits_each P each k (n / 10) (digit_glyph false (n % 10) ∷ acc) own)
   where
-    by : (t : Bool) → AreNameBytes (digit_glyph false (n % 10) ∷ acc)
-        → AreNameBytes (digits_onto k 10 false (n / 10) (digit_glyph false (n % 10) ∷ acc))
-        → AreNameBytes (if t then digit_glyph false (n % 10) ∷ acc
+    by : (t : Bool) → Each P (digit_glyph false (n % 10) ∷ acc)
+        → Each P (digits_onto k 10 false (n / 10) (digit_glyph false (n % 10) ∷ acc))
+        → Each P (if t then digit_glyph false (n % 10) ∷ acc
         else digits_onto k 10 false (n / 10) (digit_glyph false (n % 10) ∷ acc))
     by true one other = one
     by false one other = other
 
-decimal_named : (n : ℕ) → AreNameBytes (decimal n)
+pub decimal_each : (P : ℕ → Type 0) → ((d : ℕ) → d < 10 → P (digit_glyph false d)) → (n : ℕ)
+    → Each P (decimal n)
 unfolding digits
-decimal_named n = digits_named 64 n [] tt
+decimal_each P each n = digits_each P each 64 n [] tt
 
--- ---- no word has a `_`
+abbrev GoesOn : ℕ → Type 0
+GoesOn b = goes_on_name b ≡ true
+
+all_go_on : (l : List ℕ) → Each GoesOn l → AreNameBytes l
+all_go_on [] h = tt
+all_go_on (b ∷ l) h = (h.0, all_go_on l h.1)
+
+glyph : (d : ℕ) → d < 10 → goes_on_name (digit_glyph false d) ≡ true
+glyph d l = grind (arith, nat_tests)
+
+pub decimal_named : (n : ℕ) → AreNameBytes (decimal n)
+decimal_named n = all_go_on (decimal n) (decimal_each GoesOn glyph n)
+
+-- ---- no word
+
+-- the words of the grammar
+abbrev words : List (List ℕ)
+words =
+    codes "and"
+    ∷ codes "assert"
+    ∷ codes "class"
+    ∷ codes "def"
+    ∷ codes "else"
+    ∷ codes "for"
+    ∷ codes "from"
+    ∷ codes "if"
+    ∷ codes "import"
+    ∷ codes "in"
+    ∷ codes "or"
+    ∷ codes "pass"
+    ∷ codes "relu"
+    ∷ codes "select"
+    ∷ codes "seq"
+    ∷ codes "stride"
+    ∷ codes "True"
+    ∷ codes "False"
+    ∷ []
+
+-- a text that a test tells from each of them
+module _ (test : List ℕ → Bool) (text : List ℕ) (fails : test text ≡ false) where
+  pub differs : (w : List ℕ) → test w ≡ true → bytes_eq text w ≡ false
+  differs w h = by (bytes_eq text w) refl
+    where
+      by : (t : Bool) → bytes_eq text w ≡ t → t ≡ false
+      by true e = sym h ∙ ap test (sym ((bytes_eq-Decides text w).0 e)) ∙ fails
+      by false e = refl
+
+  skipped : (word : List ℕ) (w : Word) (rest : Option Word) → test word ≡ true → rest ≡ None
+      → (if bytes_eq text word then Some w else rest) ≡ None
+  skipped word w rest h k =
+      ap (λ (t : Bool). if t then Some w else rest) (differs word h) ∙ k
+
+  pub no_word : Each (λ (w : List ℕ). test w ≡ true) words → word_of text ≡ None
+  no_word h =
+      skipped (codes "and") w.And _ h.0
+      (skipped (codes "assert") w.Assert _ h.1.0
+      (skipped (codes "class") w.Class _ h.1.1.0
+      (skipped (codes "def") w.Def _ h.1.1.1.0
+      (skipped (codes "else") w.Else _ h.1.1.1.1.0
+      (skipped (codes "for") w.For _ h.1.1.1.1.1.0
+      (skipped (codes "from") w.From _ h.1.1.1.1.1.1.0
+      (skipped (codes "if") w.If _ h.1.1.1.1.1.1.1.0
+      (skipped (codes "import") w.Import _ h.1.1.1.1.1.1.1.1.0
+      (skipped (codes "in") w.In _ h.1.1.1.1.1.1.1.1.1.0
+      (skipped (codes "or") w.Or _ h.1.1.1.1.1.1.1.1.1.1.0
+      (skipped (codes "pass") w.Pass _ h.1.1.1.1.1.1.1.1.1.1.1.0
+      (skipped (codes "relu") w.Relu _ h.1.1.1.1.1.1.1.1.1.1.1.1.0
+      (skipped (codes "select") w.Select _ h.1.1.1.1.1.1.1.1.1.1.1.1.1.0
+      (skipped (codes "seq") w.Seq _ h.1.1.1.1.1.1.1.1.1.1.1.1.1.1.0
+      (skipped (codes "stride") w.Stride _ h.1.1.1.1.1.1.1.1.1.1.1.1.1.1.1.0
+      (skipped (codes "True") w.True _ h.1.1.1.1.1.1.1.1.1.1.1.1.1.1.1.1.0
+      (skipped (codes "False") w.False _ h.1.1.1.1.1.1.1.1.1.1.1.1.1.1.1.1.1.0 refl)))))))))))))))))
+
+-- ---- none has a `_`
 
 abbrev has_no_bar : List ℕ → Bool
 has_no_bar [] = true
@@ -58,44 +127,6 @@ has_bar (b ∷ x) more = by (b == 95) (has_bar x more)
         → (if t then false else has_no_bar (x ++ 95 ∷ more)) ≡ false
     by true h = refl
     by false h = h
-
-differs : (x more w : List ℕ) → has_no_bar w ≡ true → bytes_eq (x ++ 95 ∷ more) w ≡ false
-differs x more w h = by (bytes_eq (x ++ 95 ∷ more) w) refl
-  where
-    by : (t : Bool) → bytes_eq (x ++ 95 ∷ more) w ≡ t → t ≡ false
-    by true e =
-        sym h ∙ ap has_no_bar (sym ((bytes_eq-Decides (x ++ 95 ∷ more) w).0 e)) ∙ has_bar x more
-    by false e = refl
-
-module _ (x more : List ℕ) where
-  abbrev text : List ℕ
-  text = x ++ 95 ∷ more
-
-  skipped : (word : List ℕ) (w : Word) (rest : Option Word) → has_no_bar word ≡ true
-      → rest ≡ None → (if bytes_eq text word then Some w else rest) ≡ None
-  skipped word w rest h k =
-      ap (λ (t : Bool). if t then Some w else rest) (differs x more word h) ∙ k
-
-  no_word : word_of text ≡ None
-  no_word =
-      skipped (codes "and") w.And _ refl
-      (skipped (codes "assert") w.Assert _ refl
-      (skipped (codes "class") w.Class _ refl
-      (skipped (codes "def") w.Def _ refl
-      (skipped (codes "else") w.Else _ refl
-      (skipped (codes "for") w.For _ refl
-      (skipped (codes "from") w.From _ refl
-      (skipped (codes "if") w.If _ refl
-      (skipped (codes "import") w.Import _ refl
-      (skipped (codes "in") w.In _ refl
-      (skipped (codes "or") w.Or _ refl
-      (skipped (codes "pass") w.Pass _ refl
-      (skipped (codes "relu") w.Relu _ refl
-      (skipped (codes "select") w.Select _ refl
-      (skipped (codes "seq") w.Seq _ refl
-      (skipped (codes "stride") w.Stride _ refl
-      (skipped (codes "True") w.True _ refl
-      (skipped (codes "False") w.False _ refl refl)))))))))))))))))
 
 -- ---- the name
 
@@ -122,7 +153,9 @@ numbered_named x k first all =
       begins = begins x (95 ∷ decimal k) first;
       bytes = more_bytes x (95 ∷ decimal k) all (refl, decimal_named k);
       some = no_other x (decimal k) first;
-      free = no_word x (decimal k);
+      free =
+          no_word has_no_bar (x ++ 95 ∷ decimal k) (has_bar x (decimal k))
+          (refl, (refl, (refl, (refl, (refl, (refl, (refl, (refl, (refl, (refl, (refl, (refl, (refl, (refl, (refl, (refl, (refl, (refl, tt))))))))))))))))));
     })
 
 pub numbered_is_name : (x : List ℕ) (k : ℕ) → IsName x → IsName (numbered x k)

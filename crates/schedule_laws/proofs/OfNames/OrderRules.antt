@@ -1,7 +1,7 @@
 -- The rules that change the order of loops and statements, and those that take loops and conditions
 -- away, give names that were there.
 use Rattle.std.proofs.Common.{◌≡◌, ◌==◌, ◌&&◌, ℕ, zero, suc, Bool, true, false, if◌then◌else◌, []}
-use Rattle.std.proofs.Common.{Option, Some, None, option_map, option_and_then, refl, subst}
+use Rattle.std.proofs.Common.{Option, Some, None, option_map, option_and_then, refl, subst, ◌∙◌}
 use Rattle.exo_tree.specs.Tree.{Var, Statement, Assign, Reduce, Config, Pass, If, For, Alloc, View}
 use Rattle.exo_tree.specs.Tree.{Call, Block, end, next}
 use Rattle.exo_tree.specs.Places.{Branch, Main, Else, parted}
@@ -11,18 +11,18 @@ use Rattle.text_show_laws.specs.Named.{IsNamedStatement, IsNamedBlock}
 use Rattle.place_laws.specs.Scope.UnrollLoop.{only_loop}
 use Rattle.place_laws.specs.Order.Reorder.{pair}
 use Rattle.place_laws.specs.Order.TurnsOfTwo.{Loop}
-use Rattle.cursor_forward.specs.Causes.{Form, WideNumber}
-use Rattle.step_rules.specs.Rule.{Writing, AsMade, Simplified, Got, Not}
-use Rattle.step_rules.specs.Shapes.{alone_in}
+use Rattle.step_rules.specs.Rule.{Got}
+use Rattle.step_rules.specs.Answer.{unless}
+use Rattle.step_rules.specs.Shapes.{tried, alone_in}
+use Rattle.step_rules.proofs.Proposals.{then_got, unless_got}
 use Rattle.step_rules.proofs.Shapes.{made_of, alone_is}
 use Rattle.loop_laws.specs.Shapes.{loop_in, loop_of}
 use Rattle.loop_laws.proofs.Sites.{found_then}
 use Rattle.loop_laws.specs.Nest.Fission.{Parting, may_part, where_it_may, parted_at, parting_of}
 use Rattle.loop_laws.specs.Nest.Fission.{parted_loops, fission_rule}
-use Rattle.loop_laws.specs.Nest.Fuse.{Two, with_second, two_of, both_are_affine, bounds_may_agree}
-use Rattle.loop_laws.specs.Nest.Fuse.{where_they_agree}
-use Rattle.loop_laws.specs.Nest.Fuse.{two_in, bounds_fit, second_body, fused, fused_as, fuse_draft}
-use Rattle.loop_laws.specs.Nest.Fuse.{fuse_rule}
+use Rattle.loop_laws.specs.Bounds.{bounds_differ}
+use Rattle.loop_laws.specs.Nest.Fuse.{Two, with_second, two_of, both_are_affine, in_variables}
+use Rattle.loop_laws.specs.Nest.Fuse.{where_they_agree, fusing, second_body, fused, fuse_rule}
 use Rattle.loop_laws.specs.Nest.ReorderLoops as loops
 use Rattle.loop_laws.specs.Nest.ReorderLoops.{Nest, bounds_lack, with_inner, nest_of, turned}
 use Rattle.proc_laws.specs.Statement.DeadCode.{Fork, fork_in, fork_of, branch_at, or_one_pass, kept}
@@ -92,10 +92,19 @@ two_named (next a end) p found h = cc
 two_named (next a (next b end)) p found h = both_named a b p found h.0 h.1.0
 two_named (next a (next b (next c rest))) p found h = cc
 
-two_in_named : (b : Block) (p : Two) → two_in b ≡ Some p → IsNamedBlock b → AreNamedLoops p
-two_in_named b p found h =
-    let q = found_then (two_of b) where_they_agree p found in
-    subst AreNamedLoops (where_same (both_are_affine q.0 && bounds_may_agree q.0) q.0 p q.2)
+they_stay : (p q : Two) → where_they_agree p ≡ Got q → p ≡ q
+they_stay p q h =
+    let low = unless_got (bounds_differ p.first.lo p.second.lo)
+    (unless (bounds_differ p.first.hi p.second.hi) (Got p)) q h in
+    got_same (unless_got (bounds_differ p.first.hi p.second.hi) (Got p) q low.1).1
+
+fusing_named : (b : Block) (p : Two) → fusing b ≡ Got p → IsNamedBlock b → AreNamedLoops p
+fusing_named b p found h =
+    let read = option_and_then in_variables (two_of b) in
+    let t = then_got (tried read (λ q. q)) where_they_agree p found in
+    let d = made_of read (λ q. q) t.0 t.1 in
+    let q = found_then (two_of b) in_variables d.of d.found in
+    subst AreNamedLoops (where_same (both_are_affine q.0) q.0 d.of q.2 ∙ d.made ∙ they_stay t.0 p t.2)
     (two_named b q.0 q.1 h)
 
 fused_named : (p : Two) → AreNamedLoops p → IsNamedBlock (fused p)
@@ -103,28 +112,13 @@ fused_named p h =
     let second = replaced_named p.second.binder.id (Var p.first.binder.id) p.second.body h.1.body in
     ((h.0.name, joined_named p.first.body (second_body p) h.0.body second), tt)
 
-fused_is : (how : Writing) (p : Two) (made : Block) → fused_as how p ≡ Got made → fused p ≡ made
-fused_is AsMade p made h = got_same h
-fused_is Simplified p made h = by (bounds_fit p) h
-  where
-    by : (t : Bool) → (if t then Got (fused p) else Not (Form WideNumber)) ≡ Got made → fused p ≡ made
-    by true h = got_same h
-    by false h = cc
-
-drafted_named : (how : Writing) (o : Option Two) (made : Block)
-    → fuse_draft how o ≡ Got made
-    → ((p : Two) → o ≡ Some p → AreNamedLoops p)
-    → IsNamedBlock made
-drafted_named how None made h are = cc
-drafted_named how (Some p) made h are =
-    subst IsNamedBlock (fused_is how p made h) (fused_named p (are p refl))
-
 pub fuse_names : IsNaming fuse_rule
 fuse_names = record {
   name = λ p h. h;
   draft = λ s how base made unit proc piece h.
-      drafted_named how (two_in s.opened.piece) made h
-      (λ p found. two_in_named s.opened.piece p found piece);
+      let t = then_got (fusing s.opened.piece) (λ p. Got (fused p)) made h in
+      subst IsNamedBlock (got_same t.2)
+      (fused_named t.0 (fusing_named s.opened.piece t.0 t.1 piece));
 }
 
 -- ---- a loop in parts

@@ -7,25 +7,45 @@ use Rattle.schedule_laws.proofs.OfNames.OrderRules.{reorder_names, fuse_names, f
 use Rattle.schedule_laws.proofs.OfNames.OrderRules.{keep_names, empty_loop_names, remove_names}
 use Rattle.schedule_laws.proofs.OfNames.OrderRules.{exchange_names}
 use Rattle.schedule_laws.proofs.OfNames.ScopeRules.{join_names, lift_names}
+use Rattle.schedule_laws.proofs.OfNames.BufferRules.{memory_names, delete_names, lift_alloc_names}
+use Rattle.schedule_laws.proofs.OfNames.BufferRules.{expand_names, bind_names}
+use Rattle.schedule_laws.proofs.OfNames.StageRule.{stage_names}
+use Rattle.schedule_laws.proofs.OfNames.CallRules.{inline_window_names, inline_names}
+use Rattle.schedule_laws.proofs.OfNames.SimplifyRules.{simplify_names}
+use Rattle.schedule_laws.proofs.OfNames.FieldRules.{write_field_names, delete_field_names}
+use Rattle.schedule_laws.proofs.OfNames.FieldRules.{bind_field_names, version_names}
 
 pub rules_give_names : RulesGiveNames
 rules_give_names = record {
-  commute = commute_names;
-  rename = rename_names;
-  delete_pass = delete_pass_names;
-  cut = cut_names;
-  divide = divide_names;
-  unroll = unroll_names;
-  specialize = specialize_names;
-  shift = shift_names;
-  mult = mult_names;
   reorder_loops = reorder_names;
-  fuse = fuse_names;
+  divide = divide_names;
+  cut = cut_names;
   join = join_names;
+  mult = mult_names;
+  shift = shift_names;
   fission = fission_names;
-  keep = keep_names;
-  empty_loop = empty_loop_names;
+  fuse = fuse_names;
+  unroll = unroll_names;
   remove = remove_names;
   lift = lift_names;
+  specialize = specialize_names;
+  empty_loop = empty_loop_names;
+  keep = keep_names;
   reorder_statements = exchange_names;
+  commute = commute_names;
+  delete_pass = delete_pass_names;
+  rename = rename_names;
+  memory = memory_names;
+  delete_buffer = delete_names;
+  lift_alloc = lift_alloc_names;
+  expand = expand_names;
+  bind = bind_names;
+  stage = stage_names;
+  inline_window = inline_window_names;
+  inline = inline_names;
+  simplify = simplify_names;
+  write_field = write_field_names;
+  delete_field = delete_field_names;
+  bind_field = bind_field_names;
+  version = version_names;
 }

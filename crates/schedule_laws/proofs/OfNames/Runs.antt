@@ -25,7 +25,9 @@ use Rattle.schedule_laws.specs.Versions.Lines.{all_sought, ruled_step, found_ste
 use Rattle.schedule_laws.specs.Versions.Lines.{binding, searched, held_place, is_instruction, emitting}
 use Rattle.schedule_laws.specs.Versions.Lines.{Act, Faulty, Apply, Search, Moved, Emit, performed}
 use Rattle.schedule_laws.specs.Versions.Lines.{Outcome, Done, behind, run_from}
-use Rattle.schedule_laws.specs.Names.Runs.{IsNamingCall, IsNamingAct, RunsKeepNames}
+use Rattle.schedule_laws.specs.Versions.Laws.{EachRule}
+use Rattle.schedule_laws.specs.Names.Rules.{IsNaming}
+use Rattle.schedule_laws.specs.Names.Runs.{IsNamingAct, RunsKeepNames}
 use Rattle.schedule_laws.proofs.OfNames.Proposed.{proposals_are_named}
 
 -- ---- one line
@@ -79,19 +81,19 @@ module _ (v : Versions) (are : AreNamed v.unit) where
 
   -- ---- operators
 
-  module _ (name : List ℕ) (call : Call) (is : IsNamingCall call) where
+  module _ (name : List ℕ) (call : Call) (is : EachRule IsNaming call) where
     module _ (k : ℕ) (p : Procedure) (there : version_at v k ≡ Some p) where
-      ruled_arrives : (cs : List Cursor) (t : Tried Ruled) → call.rule (target v k p) cs ≡ t
+      ruled_arrives : (cs : List Cursor) (t : Tried Ruled) → call.rule v (target v k p) cs ≡ t
           → Arrives (ruled_step v name k p t)
       ruled_arrives cs (rule.Not cause) e = refused _
       ruled_arrives cs (rule.Got r) e =
           proposed_arrives name k (proposed r.rule (target v k p) r.at)
-          (λ m f. proposals_are_named r.rule (target v k p) r.at m (is (target v k p) cs r e) are
+          (λ m f. proposals_are_named r.rule (target v k p) r.at m (is v (target v k p) cs r e) are
           (each_at IsNamedProcedure v.unit.procedures k p are.procedures there) f)
 
       found_arrives : (s : Sought (List Cursor)) → Arrives (found_step v name k p call s)
       found_arrives (Lost why) = refused _
-      found_arrives (Got cs) = ruled_arrives cs (call.rule (target v k p) cs) refl
+      found_arrives (Got cs) = ruled_arrives cs (call.rule v (target v k p) cs) refl
 
     called_on_arrives : (k : ℕ) (o : Option Procedure) → version_at v k ≡ o
         → Arrives (called_on v name call k o)
@@ -127,7 +129,9 @@ module _ (v : Versions) (are : AreNamed v.unit) where
 
   act_arrives : (a : Act) → IsNamingAct a → Arrives (performed v a)
   act_arrives (Faulty why) is = refused why
-  act_arrives (Apply name of call) is = called_arrives name call is (version_of v of)
+  act_arrives (Apply name of call) is =
+      test_arrives (call.formed v) (called v name call (version_of v of)) BadArguments
+      (called_arrives name call is (version_of v of))
   act_arrives (Search name of pattern nth moves) is =
       searched_arrives name pattern nth moves (version_of v of)
   act_arrives (Moved name of moves) is =

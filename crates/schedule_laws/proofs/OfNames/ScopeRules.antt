@@ -11,10 +11,11 @@ use Rattle.place_laws.specs.Order.TurnsOfTwo.{Loop}
 use Rattle.cursor_forward.specs.Causes.{WrongShape, Form, WideNumber}
 use Rattle.step_rules.specs.Rule.{Got, Not}
 use Rattle.step_rules.specs.Shapes.{tried, alone_in}
-use Rattle.step_rules.proofs.Proposals.{then_got}
+use Rattle.step_rules.proofs.Proposals.{then_got, unless_got}
 use Rattle.step_rules.proofs.Shapes.{made_of, alone_is}
 use Rattle.loop_laws.specs.Shapes.{loop_in}
 use Rattle.loop_laws.proofs.Sites.{found_then}
+use Rattle.loop_laws.specs.Bounds.{bounds_differ}
 use Rattle.loop_laws.specs.JoinLoops.{Neighbours, neighbours, have_one_body, meet_in_variables}
 use Rattle.loop_laws.specs.JoinLoops.{with_one_body, where_they_meet, joining, joined_loop, joining_at}
 use Rattle.loop_laws.specs.JoinLoops.{join_rule}
@@ -45,14 +46,7 @@ first_named (next a (next b end)) n found h =
 first_named (next a (next b (next c rest))) n found h = cc
 
 meet_same : (k n : Neighbours) → where_they_meet k ≡ Got n → k ≡ n
-meet_same k n h = by _ _ h
-  where
-    by : (t u : Bool)
-        → (if t then (if u then Got k else Not WrongShape) else Not (Form WideNumber)) ≡ Got n
-        → k ≡ n
-    by true true h = got_same h
-    by true false h = cc
-    by false u h = cc
+meet_same k n h = got_same (unless_got (bounds_differ k.second.lo k.first.hi) (Got k) n h).1
 
 joining_named : (base : ℕ) (b : Block) (n : Neighbours) → joining base b ≡ Got n → IsNamedBlock b
     → IsNamedLoop n.first

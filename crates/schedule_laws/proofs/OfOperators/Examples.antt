@@ -10,7 +10,7 @@ use Rattle.made_trees.specs.Ids.{next_id}
 use Rattle.unit_check.specs.Laws.{CheckedUnitsDoNotFault}
 use Rattle.schedule_laws.specs.Versions.Versions.{started}
 use Rattle.schedule_laws.specs.Versions.Laws.{HasRoom}
-use Rattle.schedule_laws.specs.Operators.Operators.{SchedulesDerive}
+use Rattle.schedule_laws.specs.Operators.Laws.{SchedulesDerive}
 use Rattle.schedule_laws.specs.Operators.Instance.{first, unit, schedule, result, ScheduleInstance}
 use Rattle.schedule_laws.specs.Operators.Instance.{ResultIsDerived}
 use Rattle.schedule_laws.specs.Operators.LoopInstance.{LoopsInstance}

@@ -1,5 +1,4 @@
--- What each line leaves, and so what all of them leave: names hold versions that are there, and no field
--- may differ where no operator names one.
+-- What each line leaves, and so what all of them leave: names hold versions that are there.
 use Rattle.std.proofs.Common.{◌≡◌, ◌+◌, ◌<◌, ◌≤◌, ℕ, zero, suc, Bool, true, false}
 use Rattle.std.proofs.Common.{List, [], ◌∷◌, ◌++◌, map, length, Option, Some, None, refl, sym, ap}
 use Rattle.std.proofs.Common.{◌∙◌, ◌==◌, ap₂, subst, arith}
@@ -7,10 +6,6 @@ use Rattle.std.specs.Str.{bytes_eq}
 use Rattle.std.specs.Prelude.{⊤, slice_get, if◌then◌else◌}
 use Rattle.exo_tree.specs.Tree.{Procedure}
 use Rattle.exo_meaning.specs.Orders.{Each}
-use Rattle.config_state.specs.FieldSets.{fields_from, fields_where}
-use Rattle.config_laws.specs.Differing as config
-use Rattle.config_laws.specs.Differing.{parent_in, step_fields, from_parent, fields_since, differing}
-use Rattle.config_laws.specs.FieldRule.{is_listed, fields_at_end}
 use Rattle.bounds_check.specs.Obligations.{Fault, list_fault}
 use Rattle.unit_check.specs.Checked as unit_check
 use Rattle.unit_check.specs.Checked.{first_open}
@@ -18,12 +13,11 @@ use Rattle.cursor_patterns.specs.Patterns.{Pattern}
 use Rattle.cursor_forward.specs.Cursors.{Cursor}
 use Rattle.cursor_forward.specs.Proposals.{Plan}
 use Rattle.tree_laws.specs.Findings.Versions.{with_version}
-use Rattle.step_rules.specs.Rule.{Tried, Target, Rule}
+use Rattle.step_rules.specs.Rule.{Tried}
 use Rattle.step_rules.specs.Rule as rule
-use Rattle.step_rules.specs.Answer.{proposed, spot}
-use Rattle.step_rules.proofs.Proposals.{proposal_of}
+use Rattle.step_rules.specs.Answer.{proposed}
 use Rattle.schedule_calls.specs.Requests.{Move}
-use Rattle.schedule_laws.specs.Versions.Versions.{Origin, of_text, made_of, configured, Held, Version, At}
+use Rattle.schedule_laws.specs.Versions.Versions.{Held, Version, At}
 use Rattle.schedule_laws.specs.Versions.Versions.{Versions, names_from, started, version_at, held_after, held}
 use Rattle.schedule_laws.specs.Versions.Versions.{as_version, version_of, bound, with_step}
 use Rattle.schedule_laws.specs.Versions.Places.{Sought, Got, Lost, Place, then_seek}
@@ -34,158 +28,135 @@ use Rattle.schedule_laws.specs.Versions.Lines.{all_sought, ruled_step, found_ste
 use Rattle.schedule_laws.specs.Versions.Lines.{binding, searched, held_place, is_instruction, emitting}
 use Rattle.schedule_laws.specs.Versions.Lines.{Act, Faulty, Apply, Search, Moved, Emit, performed}
 use Rattle.schedule_laws.specs.Versions.Lines.{Outcome, Done, run_from, behind}
-use Rattle.schedule_laws.specs.Versions.Behind.{RunsHoldVersions, ActNamesNoField, NothingDiffers}
-use Rattle.schedule_laws.specs.Versions.Behind.{RunsDifferInNothing}
+use Rattle.schedule_laws.specs.Versions.Behind.{RunsHoldVersions}
 
 -- ---- one line
 
-module _ (P : Plan → Type 0) where
-  -- a name holds a cursor more, a version more is emitted, or there is a version more, which such a plan
-  -- makes
-  data Grows (v : Versions) : Versions → Type 0 where
-    binds : (name : List ℕ) (j : ℕ) (c : Cursor) → Grows v (bound name (At j c) v)
-    emits : (k : ℕ) → Grows v (record v { emitted = v.emitted ++ k ∷ [] })
-    steps : (name : List ℕ) (k : ℕ) (m : Plan) (shown : ℕ) → P m → Grows v (with_step name k m shown v)
+-- a name holds a cursor more, a version more is emitted, or there is a version more
+data Grows (v : Versions) : Versions → Type 0 where
+  binds : (name : List ℕ) (j : ℕ) (c : Cursor) → Grows v (bound name (At j c) v)
+  emits : (k : ℕ) → Grows v (record v { emitted = v.emitted ++ k ∷ [] })
+  steps : (name : List ℕ) (k : ℕ) (m : Plan) (shown : ℕ) → Grows v (with_step name k m shown v)
 
-  -- each plan of the operator is such a one
-  abbrev Plans : Act → Type 0
-  Plans (Faulty why) = ⊤
-  Plans (Apply name of call) =
-      (t : Target) (cs : List Cursor) (r : Ruled) → call.rule t cs ≡ rule.Got r
-      → (m : Plan) → proposed r.rule t r.at ≡ rule.Got m → P m
-  Plans (Search name of pattern nth moves) = ⊤
-  Plans (Moved name of moves) = ⊤
-  Plans (Emit name) = ⊤
+went_same : {v w : Versions} → Went v ≡ Went w → v ≡ w
+went_same h = cc
 
-  went_same : {v w : Versions} → Went v ≡ Went w → v ≡ w
-  went_same h = cc
+refused_went : {why : Why} {w : Versions} → Refused why ≡ Went w → ⊥
+refused_went h = cc
 
-  refused_went : {why : Why} {w : Versions} → Refused why ≡ Went w → ⊥
-  refused_went h = cc
+module _ (v : Versions) where
+  abbrev Arrives : Progress → Type 0
+  Arrives progress = (w : Versions) → progress ≡ Went w → Grows v w
 
-  module _ (v : Versions) where
-    abbrev Arrives : Progress → Type 0
-    Arrives progress = (w : Versions) → progress ≡ Went w → Grows v w
+  refused : (why : Why) → Arrives (Refused why)
+  refused why w h = absurd (refused_went h)
 
-    refused : (why : Why) → Arrives (Refused why)
-    refused why w h = absurd (refused_went h)
+  went : (u : Versions) → Grows v u → Arrives (Went u)
+  went u grows w h = subst (λ z. Grows v z) (went_same h) grows
 
-    went : (u : Versions) → Grows v u → Arrives (Went u)
-    went u grows w h = subst (λ z. Grows v z) (went_same h) grows
+  test_arrives : (b : Bool) (one : Progress) (why : Why) → Arrives one
+      → Arrives (if b then one else Refused why)
+  test_arrives true one why h = h
+  test_arrives false one why h = refused why
 
-    -- ---- a step
+  -- ---- a step
 
-    shown_arrives : (name : List ℕ) (k : ℕ) (m : Plan) → P m → (o : Option unit_check.Cause)
-        → Arrives (shown_step v name k m o)
-    shown_arrives name k m is None =
-        went (with_step name k m (length (owed_for v m)) v) (steps name k m (length (owed_for v m)) is)
-    shown_arrives name k m is (Some (unit_check.NotListed fault)) = refused _
-    shown_arrives name k m is (Some (unit_check.NotShown what place verdict)) = refused _
+  shown_arrives : (name : List ℕ) (k : ℕ) (m : Plan) (o : Option unit_check.Cause)
+      → Arrives (shown_step v name k m o)
+  shown_arrives name k m None =
+      went (with_step name k m (length (owed_for v m)) v) (steps name k m (length (owed_for v m)))
+  shown_arrives name k m (Some (unit_check.NotListed fault)) = refused _
+  shown_arrives name k m (Some (unit_check.NotShown what place verdict)) = refused _
 
-    checked_arrives : (name : List ℕ) (k : ℕ) (m : Plan) → P m → (o : Option Fault)
-        → Arrives (checked_step v name k m o)
-    checked_arrives name k m is None = shown_arrives name k m is (first_open (owed_for v m))
-    checked_arrives name k m is (Some fault) = refused _
+  checked_arrives : (name : List ℕ) (k : ℕ) (m : Plan) (o : Option Fault)
+      → Arrives (checked_step v name k m o)
+  checked_arrives name k m None = shown_arrives name k m (first_open (owed_for v m))
+  checked_arrives name k m (Some fault) = refused _
 
-    proposed_arrives : (name : List ℕ) (k : ℕ) (t : Tried Plan)
-        → ((m : Plan) → t ≡ rule.Got m → P m) → Arrives (proposed_step v name k t)
-    proposed_arrives name k (rule.Not cause) is = refused _
-    proposed_arrives name k (rule.Got m) is =
-        checked_arrives name k m (is m refl) (list_fault (with_version v.unit m.proc) m.proc)
+  proposed_arrives : (name : List ℕ) (k : ℕ) (t : Tried Plan) → Arrives (proposed_step v name k t)
+  proposed_arrives name k (rule.Not cause) = refused _
+  proposed_arrives name k (rule.Got m) =
+      checked_arrives name k m (list_fault (with_version v.unit m.proc) m.proc)
 
-    -- ---- operators
+  -- ---- operators
 
-    module _ (name : List ℕ) (of : List ℕ) (call : Call) (is : Plans (Apply name of call)) where
-      ruled_arrives : (k : ℕ) (p : Procedure) (cs : List Cursor) (t : Tried Ruled)
-          → call.rule (target v k p) cs ≡ t → Arrives (ruled_step v name k p t)
-      ruled_arrives k p cs (rule.Not cause) e = refused _
-      ruled_arrives k p cs (rule.Got r) e =
-          proposed_arrives name k (proposed r.rule (target v k p) r.at)
-          (λ m f. is (target v k p) cs r e m f)
+  module _ (name : List ℕ) (call : Call) where
+    ruled_arrives : (k : ℕ) (p : Procedure) (t : Tried Ruled) → Arrives (ruled_step v name k p t)
+    ruled_arrives k p (rule.Not cause) = refused _
+    ruled_arrives k p (rule.Got r) = proposed_arrives name k (proposed r.rule (target v k p) r.at)
 
-      found_arrives : (k : ℕ) (p : Procedure) (s : Sought (List Cursor))
-          → Arrives (found_step v name k p call s)
-      found_arrives k p (Lost why) = refused _
-      found_arrives k p (Got cs) = ruled_arrives k p cs (call.rule (target v k p) cs) refl
+    found_arrives : (k : ℕ) (p : Procedure) (s : Sought (List Cursor))
+        → Arrives (found_step v name k p call s)
+    found_arrives k p (Lost why) = refused _
+    found_arrives k p (Got cs) = ruled_arrives k p (call.rule v (target v k p) cs)
 
-      test_arrives : (b : Bool) (one : Progress) (why : Why) → Arrives one
-          → Arrives (if b then one else Refused why)
-      test_arrives true one why h = h
-      test_arrives false one why h = refused why
+    called_on_arrives : (k : ℕ) (o : Option Procedure) → Arrives (called_on v name call k o)
+    called_on_arrives k None = refused _
+    called_on_arrives k (Some p) =
+        test_arrives (call.named v) (found_step v name k p call (all_sought v k call.cursors)) _
+        (found_arrives k p (all_sought v k call.cursors))
 
-      called_on_arrives : (k : ℕ) (o : Option Procedure) → Arrives (called_on v name call k o)
-      called_on_arrives k None = refused _
-      called_on_arrives k (Some p) =
-          test_arrives (call.named v) (found_step v name k p call (all_sought v k call.cursors)) _
-          (found_arrives k p (all_sought v k call.cursors))
+    called_arrives : (o : Option ℕ) → Arrives (called v name call o)
+    called_arrives None = refused _
+    called_arrives (Some k) = called_on_arrives k (version_at v k)
 
-      called_arrives : (o : Option ℕ) → Arrives (called v name call o)
-      called_arrives None = refused _
-      called_arrives (Some k) = called_on_arrives k (version_at v k)
+  -- ---- names
 
-    -- ---- names
+  binding_arrives : (name : List ℕ) (s : Sought Place) → Arrives (binding v name s)
+  binding_arrives name (Lost why) = refused _
+  binding_arrives name (Got p) = went _ (binds name p.version p.cursor)
 
-    binding_arrives : (name : List ℕ) (s : Sought Place) → Arrives (binding v name s)
-    binding_arrives name (Lost why) = refused _
-    binding_arrives name (Got p) = went _ (binds name p.version p.cursor)
+  searched_arrives : (name : List ℕ) (pattern : Pattern) (nth : ℕ) (moves : List Move) (o : Option ℕ)
+      → Arrives (searched v name pattern nth moves o)
+  searched_arrives name pattern nth moves None = refused _
+  searched_arrives name pattern nth moves (Some j) =
+      binding_arrives name (then_seek (matched v j pattern nth) (moved_at v moves))
 
-    searched_arrives : (name : List ℕ) (pattern : Pattern) (nth : ℕ) (moves : List Move)
-        (o : Option ℕ) → Arrives (searched v name pattern nth moves o)
-    searched_arrives name pattern nth moves None = refused _
-    searched_arrives name pattern nth moves (Some j) =
-        binding_arrives name (then_seek (matched v j pattern nth) (moved_at v moves))
+  emitting_arrives : (o : Option ℕ) → Arrives (emitting v o)
+  emitting_arrives None = refused _
+  emitting_arrives (Some k) = by (is_instruction (version_at v k))
+    where
+      by : (b : Bool) → Arrives (if b then Refused BadArguments
+          else Went (record v { emitted = v.emitted ++ k ∷ [] }))
+      by true = refused _
+      by false = went _ (emits k)
 
-    emitting_arrives : (o : Option ℕ) → Arrives (emitting v o)
-    emitting_arrives None = refused _
-    emitting_arrives (Some k) = by (is_instruction (version_at v k))
-      where
-        by : (b : Bool) → Arrives (if b then Refused BadArguments
-            else Went (record v { emitted = v.emitted ++ k ∷ [] }))
-        by true = refused _
-        by false = went _ (emits k)
+  act_arrives : (a : Act) → Arrives (performed v a)
+  act_arrives (Faulty why) = refused why
+  act_arrives (Apply name of call) =
+      test_arrives (call.formed v) (called v name call (version_of v of)) BadArguments
+      (called_arrives name call (version_of v of))
+  act_arrives (Search name of pattern nth moves) =
+      searched_arrives name pattern nth moves (version_of v of)
+  act_arrives (Moved name of moves) =
+      binding_arrives name (then_seek (held_place (held v of)) (moved_at v moves))
+  act_arrives (Emit name) = emitting_arrives (version_of v name)
 
-    act_arrives : (a : Act) → Plans a → Arrives (performed v a)
-    act_arrives (Faulty why) is = refused why
-    act_arrives (Apply name of call) is = called_arrives name of call is (version_of v of)
-    act_arrives (Search name of pattern nth moves) is =
-        searched_arrives name pattern nth moves (version_of v of)
-    act_arrives (Moved name of moves) is =
-        binding_arrives name (then_seek (held_place (held v of)) (moved_at v moves))
-    act_arrives (Emit name) is = emitting_arrives (version_of v name)
+-- ---- all lines
 
-  -- ---- all lines
+done_same : {v w : Versions} → Done v ≡ Done w → v ≡ w
+done_same h = cc
 
-  done_same : {v w : Versions} → Done v ≡ Done w → v ≡ w
-  done_same h = cc
+-- what each line keeps holds behind all lines
+module _ (Holds : Versions → Type 0) (keeps : (v w : Versions) → Grows v w → Holds v → Holds w) where
+  goes_on : (k : ℕ) (rest : Versions → Outcome) (progress : Progress) (v w : Versions)
+      → ((u : Versions) → progress ≡ Went u → Grows v u) → Holds v
+      → ((u : Versions) → Holds u → rest u ≡ Done w → Holds w)
+      → behind k rest progress ≡ Done w → Holds w
+  goes_on k rest (Went u) v w arrives h on e = on u (keeps v u (arrives u refl) h) e
+  goes_on k rest (Refused why) v w arrives h on e = absurd (no e)
+    where
+      no : behind k rest (Refused why) ≡ Done w → ⊥
+      no e = cc
 
-  -- what each line keeps holds behind all lines
-  module _ (Holds : Versions → Type 0) (keeps : (v w : Versions) → Grows v w → Holds v → Holds w) where
-    goes_on : (k : ℕ) (rest : Versions → Outcome) (progress : Progress) (v w : Versions)
-        → ((u : Versions) → progress ≡ Went u → Grows v u) → Holds v
-        → ((u : Versions) → Holds u → rest u ≡ Done w → Holds w)
-        → behind k rest progress ≡ Done w → Holds w
-    goes_on k rest (Went u) v w arrives h on e = on u (keeps v u (arrives u refl) h) e
-    goes_on k rest (Refused why) v w arrives h on e = absurd (no e)
-      where
-        no : behind k rest (Refused why) ≡ Done w → ⊥
-        no e = cc
-
-    held_behind : (k : ℕ) (acts : List Act) (v w : Versions) → Each Plans acts → Holds v
-        → run_from k acts v ≡ Done w → Holds w
-    held_behind k [] v w is h e = subst Holds (done_same e) h
-    held_behind k (a ∷ more) v w is h e =
-        goes_on k (run_from (k + 1) more) (performed v a) v w (act_arrives v a is.0) h
-        (λ u g f. held_behind (k + 1) more u w is.1 g f) e
+  held_behind : (k : ℕ) (acts : List Act) (v w : Versions) → Holds v → run_from k acts v ≡ Done w
+      → Holds w
+  held_behind k [] v w h e = subst Holds (done_same e) h
+  held_behind k (a ∷ more) v w h e =
+      goes_on k (run_from (k + 1) more) (performed v a) v w (act_arrives v a) h
+      (λ u g f. held_behind (k + 1) more u w g f) e
 
 -- ---- names
-
-any_plan : (acts : List Act) → Each (Plans (λ m. ⊤)) acts
-any_plan [] = tt
-any_plan (Faulty why ∷ more) = (tt, any_plan more)
-any_plan (Apply name of call ∷ more) = (λ t cs r e m f. tt, any_plan more)
-any_plan (Search name of pattern nth moves ∷ more) = (tt, any_plan more)
-any_plan (Moved name of moves ∷ more) = (tt, any_plan more)
-any_plan (Emit name ∷ more) = (tt, any_plan more)
 
 -- a version below that number, or a cursor
 abbrev IsBelow : ℕ → Held → Type 0
@@ -215,11 +186,11 @@ one_below : (n : ℕ) (names : List (List ℕ × Held)) (b : List ℕ × Held) �
 one_below n [] b h k = (k, tt)
 one_below n (a ∷ more) b h k = (h.0, one_below n more b h.1 k)
 
-names_step : (v w : Versions) → Grows (λ m. ⊤) v w → NamesAreBelow v → NamesAreBelow w
+names_step : (v w : Versions) → Grows v w → NamesAreBelow v → NamesAreBelow w
 names_step v _ (binds name j c) h =
     one_below (length v.unit.procedures) v.names (name, At j c) h tt
 names_step v _ (emits k) h = h
-names_step v _ (steps name k m shown is) h =
+names_step v _ (steps name k m shown) h =
     let n = length v.unit.procedures in
     subst (λ l. AreBelow l (v.names ++ (name, Version n) ∷ []))
     (sym (one_longer v.unit.procedures m.proc))
@@ -270,109 +241,6 @@ pub runs_hold_versions : RunsHoldVersions
 runs_hold_versions text shown acts v name k ran is =
     let n = length v.unit.procedures in
     held_below n None v.names name k
-    (held_behind (λ m. ⊤) NamesAreBelow names_step 0 acts (started text shown) v (any_plan acts)
+    (held_behind NamesAreBelow names_step 0 acts (started text shown) v
     (names_begin (length text.procedures) 0 text.procedures (omega arith)) ran)
     (λ j e. none_found n j e) is
-
--- ---- fields
-
-abbrev IsBare : Plan → Type 0
-IsBare m = m.fields ≡ []
-
-abbrev HasNoFields : Origin → Type 0
-HasNoFields o = o.fields ≡ []
-
-bare_plans : (a : Act) → ActNamesNoField a → Plans IsBare a
-bare_plans (Faulty why) is = tt
-bare_plans (Apply name of call) is = λ t cs r e m f.
-    let p = proposal_of r.rule t r.at m f in
-    sym (ap (λ (n : Plan). n.fields) p.answer.is) ∙ is t cs r e (spot t p.piece p.o)
-bare_plans (Search name of pattern nth moves) is = tt
-bare_plans (Moved name of moves) is = tt
-bare_plans (Emit name) is = tt
-
-all_bare : (acts : List Act) → Each ActNamesNoField acts → Each (Plans IsBare) acts
-all_bare [] is = tt
-all_bare (a ∷ more) is = (bare_plans a is.0, all_bare more is.1)
-
-each_more : (os : List Origin) (o : Origin) → Each HasNoFields os → HasNoFields o
-    → Each HasNoFields (os ++ o ∷ [])
-each_more [] o h k = (k, tt)
-each_more (p ∷ ps) o h k = (h.0, each_more ps o h.1 k)
-
-bare_step : (v w : Versions) → Grows IsBare v w → Each HasNoFields v.origins
-    → Each HasNoFields w.origins
-bare_step v _ (binds name j c) h = h
-bare_step v _ (emits k) h = h
-bare_step v _ (steps name k m shown is) h =
-    each_more v.origins (made_of k m) h is
-
-none_before : (ps : List Procedure) → Each HasNoFields (map (λ (p : Procedure). of_text) ps)
-none_before [] = tt
-none_before (p ∷ ps) = (refl, none_before ps)
-
--- so no step leaves a field that may differ
-module _ (ps : List Procedure) where
-  by_procedure : (r : Option Procedure) (o : config.Origin) → o.fields ≡ []
-      → (elim r as (λ r. List ℕ) [
-        | None ↦ []
-        | Some q ↦ fields_at_end ps q.body o.place o.side o.fields
-      ]) ≡ []
-  by_procedure None o h = refl
-  by_procedure (Some q) o h = ap (λ fs. fields_at_end ps q.body o.place o.side fs) h
-
-  its_fields : (os : List Origin) (k : ℕ) (o : config.Origin) → Each HasNoFields os
-      → slice_get (map configured os) k ≡ Some o → o.fields ≡ []
-  its_fields [] zero o h e = cc
-  its_fields [] (suc k) o h e = cc
-  its_fields (p ∷ os) zero o h e = ap (λ (x : config.Origin). x.fields) (sym (some_same e)) ∙ h.0
-    where
-      some_same : {a b : config.Origin} → Some a ≡ Some b → a ≡ b
-      some_same e = cc
-  its_fields (p ∷ os) (suc k) o h e = its_fields os k o h.1 e
-
-  no_step : (os : List Origin) (k : ℕ) → Each HasNoFields os
-      → step_fields ps (map configured os) k ≡ []
-  no_step os k h = go (slice_get (map configured os) k) refl
-    where
-      go : (o : Option config.Origin) → slice_get (map configured os) k ≡ o
-          → (elim o as (λ o. List ℕ) [
-            | None ↦ []
-            | Some o ↦ elim (slice_get ps k) as (λ r. List ℕ) [
-              | None ↦ []
-              | Some q ↦ fields_at_end ps q.body o.place o.side o.fields
-            ]
-          ]) ≡ []
-      go None e = refl
-      go (Some o) e = by_procedure (slice_get ps k) o (its_fields os k o h e)
-
-  none_since : (os : List Origin) (from n k : ℕ) → Each HasNoFields os
-      → fields_since ps (map configured os) from n k ≡ []
-  none_since os from zero k h = refl
-  none_since os from (suc n) k h =
-      go (k == from) (parent_in (map configured os) k) (λ j. none_since os from n j h) (no_step os k h)
-    where
-      go : (b : Bool) (o : Option ℕ) → ((j : ℕ) → fields_since ps (map configured os) from n j ≡ [])
-          → step_fields ps (map configured os) k ≡ []
-          → (if b then [] else from_parent [] o
-          (λ j. fields_since ps (map configured os) from n j ++ step_fields ps (map configured os) k))
-          ≡ []
-      go true o up own = refl
-      go false None up own = refl
-      go false (Some j) up own = ap₂ (λ xs ys. xs ++ ys) (up j) own
-
-no_field : (n count : ℕ) → fields_from n count (λ f. is_listed f []) ≡ []
-no_field n zero = refl
-no_field n (suc count) = no_field (suc n) count
-
-nothing_differs : (v : Versions) → Each HasNoFields v.origins → NothingDiffers v
-nothing_differs v h k from =
-    ap (λ fs. fields_where (length v.unit.fields) (λ f. is_listed f fs))
-    (none_since v.unit.procedures v.origins from k k h)
-    ∙ no_field 0 (length v.unit.fields)
-
-pub runs_differ_in_nothing : RunsDifferInNothing
-runs_differ_in_nothing text shown acts v is ran =
-    nothing_differs v
-    (held_behind IsBare (λ (w : Versions). Each HasNoFields w.origins) bare_step 0 acts
-    (started text shown) v (all_bare acts is) (none_before text.procedures) ran)

@@ -1,8 +1,8 @@
 -- A step keeps what holds of all versions.
 use Rattle.std.proofs.Common.{◌≡◌, ◌≤◌, ◌<◌, ◌+◌, ◌^◌, ℕ, zero, suc, Bool, true, false}
-use Rattle.std.proofs.Common.{List, [], ◌∷◌, ◌++◌, map, length, Option, Some, None, refl, sym, ap}
+use Rattle.std.proofs.Common.{List, [], ◌∷◌, ◌++◌, length, Option, Some, None, refl, sym, ap}
 use Rattle.std.proofs.Common.{◌∙◌, subst, arith, All, ◌⊎◌, inl, inr, eqb-true}
-use Rattle.std.specs.Prelude.{slice_get, nat_lt, nat_le, option_and_then, Contains, ◌==◌}
+use Rattle.std.specs.Prelude.{slice_get, nat_lt, nat_le, Contains, ◌==◌}
 use Rattle.std.specs.Prelude.{if◌then◌else◌}
 use Rattle.meaning_laws.proofs.Parts.{none_some}
 use Rattle.exo_tree.specs.Tree.{Procedure, Program}
@@ -18,22 +18,20 @@ use Rattle.bounds_check.specs.Obligations.{obligations_of}
 use Rattle.unit_check.specs.Checked.{first_open}
 use Rattle.unit_check.specs.Faults.{NothingFaults}
 use Rattle.made_trees.specs.Ids.{next_id}
-use Rattle.config_laws.specs.Differing.{step_fields}
+use Rattle.config_laws.specs.Differing.{Origin, step_fields, DescendantsRefine}
 use Rattle.config_laws.specs.FieldRule.{fields_at_end, not_again, surely_from}
-use Rattle.config_laws.specs.Differing as config
 use Rattle.config_laws.proofs.Grown.{step_fields_grown}
 use Rattle.cursor_forward.specs.Proposals.{Plan}
 use Rattle.step_rules.specs.Rule.{Target, Got, Rule}
 use Rattle.step_rules.specs.Answer.{proposed}
 use Rattle.step_rules.specs.Owing.{AreShown}
 use Rattle.step_rules.specs.Lawful.{IsTarget, IsLawful, config_side, differ_at_end}
-use Rattle.config_laws.proofs.Derived.{no_versions}
 use Rattle.step_rules.specs.Laws.{KeptLaw, MeaningLaw}
 use Rattle.step_rules.proofs.Proposals.{proposal_of}
 use Rattle.tree_laws.specs.Findings.Versions.{has_room, with_version}
-use Rattle.schedule_laws.specs.Versions.Versions.{Origin, made_of, configured, Versions, version_at}
+use Rattle.schedule_laws.specs.Versions.Versions.{made_of, Versions, version_at}
 use Rattle.schedule_laws.specs.Versions.Versions.{with_step}
-use Rattle.schedule_laws.specs.Versions.Places.{parent_at, origin_at}
+use Rattle.schedule_laws.specs.Versions.Places.{parent_at}
 use Rattle.schedule_laws.specs.Versions.Lines.{target, owed_for}
 use Rattle.schedule_laws.specs.Versions.Laws.{fields_of_step, NamesFields, IsMade, AreDerived}
 use Rattle.unit_check.proofs.Made.{IsMade as IsSystem, IsClosed, none_open_is_closed}
@@ -41,8 +39,8 @@ use Rattle.unit_check.proofs.Made.{obligations_are_made}
 use Rattle.schedule_laws.proofs.OfVersions.Open.{first_none, second_none, needs_are_made}
 use Rattle.schedule_laws.proofs.OfVersions.Quiet.{Laws, Which, old, last, which, get_last, get_old}
 use Rattle.schedule_laws.proofs.OfVersions.Quiet.{one_longer, calls_before, calls_unit, nothing_faults}
-use Rattle.schedule_laws.proofs.OfVersions.Growing.{end_grown, mapped_more, mapped_length}
-use Rattle.schedule_laws.proofs.OfVersions.Growing.{by_own_origin, of_last}
+use Rattle.schedule_laws.proofs.OfVersions.Growing.{end_grown, by_own_origin, of_last}
+use Rattle.schedule_laws.proofs.OfVersions.Chain.{are_versions}
 
 -- the laws on which it stands
 pub record StepLaws : Type 0 where
@@ -51,6 +49,11 @@ pub record StepLaws : Type 0 where
   pub kept : KeptLaw
   pub meaning : MeaningLaw
   pub refines : GrownRefinesLaw
+  pub descend : DescendantsRefine
+
+-- the parent that an origin tells
+abbrev parent_of : Option Origin → Option ℕ
+parent_of o = elim o as (λ o. Option ℕ) [ None ↦ None | Some o ↦ o.parent ]
 
 is_less : (k n : ℕ) → nat_lt k n ≡ true → k < n
 is_less k n h = grind arith
@@ -124,9 +127,9 @@ none_contained f c = none c.0 c.1
 -- no version, no fields
 beyond_versions : (w : Versions) (k : ℕ) → length w.unit.procedures ≤ k
     → fields_of_step w k ≡ []
-beyond_versions w k h = by (slice_get (map configured w.origins) k)
+beyond_versions w k h = by (slice_get w.origins k)
   where
-    by : (o : Option config.Origin) → elim o as (λ o. List ℕ) [
+    by : (o : Option Origin) → elim o as (λ o. List ℕ) [
       | None ↦ []
       | Some o ↦ elim (slice_get w.unit.procedures k) as (λ r. List ℕ) [
         | None ↦ []
@@ -206,22 +209,20 @@ module _ (laws : StepLaws) (v : Versions) (derived : AreDerived v) (k : ℕ) (p 
 
   -- ---- older versions
 
-  old_origin : (i : ℕ) → nat_lt i (length ps) ≡ true → origin_at w i ≡ origin_at v i
+  old_origin : (i : ℕ) → nat_lt i (length ps) ≡ true
+      → slice_get w.origins i ≡ slice_get v.origins i
   old_origin i h =
       get_old v.origins (made_of k m) i (subst (λ n. nat_lt i n ≡ true) (sym derived.count) h)
 
   old_parent : (i : ℕ) → nat_lt i (length ps) ≡ true → parent_at w i ≡ parent_at v i
-  old_parent i h = ap (option_and_then (λ (o : Origin). o.parent)) (old_origin i h)
+  old_parent i h = ap parent_of (old_origin i h)
 
   old_fields : (i : ℕ) (q : Procedure) → nat_lt i (length ps) ≡ true → slice_get ps i ≡ Some q
       → fields_of_step w i ≡ fields_of_step v i
   old_fields i q h e =
-      step_fields_grown ps (m.proc ∷ []) (map configured w.origins) i q e
+      step_fields_grown ps (m.proc ∷ []) w.origins i q e
       (calls_unit laws.quiet v.unit derived.formed i q e)
-      ∙ by_own_origin ps (map configured w.origins) (map configured v.origins) i
-      (ap (λ l. slice_get l i) (mapped_more v.origins (made_of k m))
-      ∙ get_old (map configured v.origins) (configured (made_of k m)) i
-      (subst (λ n. nat_lt i n ≡ true) (sym (mapped_length v.origins ∙ derived.count)) h))
+      ∙ by_own_origin ps w.origins v.origins i (old_origin i h)
 
   below : (i : ℕ) (q : Procedure) → slice_get ps i ≡ Some q
       → calls_below (length ps) q.body ≡ true
@@ -263,11 +264,8 @@ module _ (laws : StepLaws) (v : Versions) (derived : AreDerived v) (k : ℕ) (p 
   new_fields : fields_of_step w (length ps)
       ≡ differ_at_end t m.proc.body m.place m.side m.fields
   new_fields =
-      by_own_origin (ps ++ m.proc ∷ []) (map configured w.origins)
-      (map configured v.origins ++ configured (made_of k m) ∷ []) (length ps)
-      (ap (λ l. slice_get l (length ps)) (mapped_more v.origins (made_of k m)))
-      ∙ of_last (ps ++ m.proc ∷ []) (map configured v.origins) (configured (made_of k m)) m.proc
-      (length ps) (sym (mapped_length v.origins ∙ derived.count)) (get_last ps m.proc)
+      of_last (ps ++ m.proc ∷ []) v.origins (made_of k m) m.proc (length ps) (sym derived.count)
+      (get_last ps m.proc)
       ∙ end_grown ps (m.proc ∷ []) m.proc.body m.place (config_side m.side) m.fields new_below
 
   new_made : IsMade w k (length ps) p m.proc
@@ -278,12 +276,13 @@ module _ (laws : StepLaws) (v : Versions) (derived : AreDerived v) (k : ℕ) (p 
         let but = differ_at_end t m.proc.body m.place m.side m.fields in
         subst (Refines (program_world longer) p m.proc) (sym new_fields)
         (grown p m.proc but (below k p there) new_below
-        (laws.meaning r t at m lawful is_target (no_versions t.unit) got owed));
+        (laws.meaning r t at m lawful is_target
+        (laws.descend v.unit v.origins (are_versions v derived)) got owed));
   }
 
   new_parent : parent_at w (length ps) ≡ Some k
   new_parent =
-      ap (option_and_then (λ (o : Origin). o.parent))
+      ap parent_of
       (ap (slice_get w.origins) (sym derived.count) ∙ get_last v.origins (made_of k m))
 
   all_made : (j i : ℕ) (q : Procedure) → Which ps m.proc q i → parent_at w i ≡ Some j

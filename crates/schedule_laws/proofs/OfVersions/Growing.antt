@@ -1,5 +1,5 @@
 -- Fields that may differ, in a unit with a version more.
-use Rattle.std.proofs.Common.{◌≡◌, ℕ, suc, Bool, true, false, List, [], ◌∷◌, ◌++◌, map, length}
+use Rattle.std.proofs.Common.{◌≡◌, ℕ, Bool, true, false, List, [], ◌∷◌, ◌++◌, length}
 use Rattle.std.proofs.Common.{Option, Some, None, refl, sym, ap, ◌∙◌, subst}
 use Rattle.std.specs.Prelude.{slice_get}
 use Rattle.exo_tree.specs.Tree.{Block, Procedure}
@@ -8,11 +8,9 @@ use Rattle.meaning_laws.specs.Grown.{calls_below}
 use Rattle.meaning_laws.proofs.Places.{opened_law}
 use Rattle.config_laws.specs.FieldRule.{Side, gap, surely_from, fields_at_end}
 use Rattle.config_laws.specs.Surely.{surely_behind, unit_surely}
-use Rattle.config_laws.specs.Differing as config
-use Rattle.config_laws.specs.Differing.{step_fields}
+use Rattle.config_laws.specs.Differing.{Origin, step_fields}
 use Rattle.config_laws.proofs.Grown.{surely_behind_grown}
 use Rattle.config_laws.proofs.Proposed.{fields_same}
-use Rattle.schedule_laws.specs.Versions.Versions.{Origin, configured}
 use Rattle.schedule_laws.proofs.OfVersions.Quiet.{get_last}
 
 -- ---- at the end of a block that calls procedures of the shorter unit alone
@@ -46,16 +44,7 @@ end_grown ps more body at side fields h =
 
 -- ---- origins
 
-pub mapped_more : (os : List Origin) (o : Origin)
-    → map configured (os ++ o ∷ []) ≡ map configured os ++ configured o ∷ []
-mapped_more [] o = refl
-mapped_more (x ∷ os) o = ap (λ l. configured x ∷ l) (mapped_more os o)
-
-pub mapped_length : (os : List Origin) → length (map configured os) ≡ length os
-mapped_length [] = refl
-mapped_length (o ∷ os) = ap suc (mapped_length os)
-
-abbrev by_origin : List Procedure → Option config.Origin → ℕ → List ℕ
+abbrev by_origin : List Procedure → Option Origin → ℕ → List ℕ
 by_origin ps o k = elim o as (λ o. List ℕ) [
   | None ↦ []
   | Some o ↦ elim (slice_get ps k) as (λ r. List ℕ) [
@@ -65,16 +54,16 @@ by_origin ps o k = elim o as (λ o. List ℕ) [
 ]
 
 -- the fields of a step are told by its own origin
-pub by_own_origin : (ps : List Procedure) (os us : List config.Origin) (k : ℕ)
+pub by_own_origin : (ps : List Procedure) (os us : List Origin) (k : ℕ)
     → slice_get os k ≡ slice_get us k → step_fields ps os k ≡ step_fields ps us k
 by_own_origin ps os us k h = ap (λ o. by_origin ps o k) h
 
-last_is : (os : List config.Origin) (o : config.Origin) (k : ℕ) → k ≡ length os
+last_is : (os : List Origin) (o : Origin) (k : ℕ) → k ≡ length os
     → slice_get (os ++ o ∷ []) k ≡ Some o
 last_is os o k h = ap (slice_get (os ++ o ∷ [])) h ∙ get_last os o
 
 -- those of the last step, in a unit that has its version
-pub of_last : (ps : List Procedure) (os : List config.Origin) (o : config.Origin) (q : Procedure)
+pub of_last : (ps : List Procedure) (os : List Origin) (o : Origin) (q : Procedure)
     (k : ℕ) → k ≡ length os → slice_get ps k ≡ Some q
     → step_fields ps (os ++ o ∷ []) k ≡ fields_at_end ps q.body o.place o.side o.fields
 of_last ps os o q k h e =

@@ -10,19 +10,19 @@ use Rattle.affine_prover.specs.declared.answer.Verdict.{Verdict}
 use Rattle.affine_prover.specs.declared.answer.Verdict.TheVariants as verdict
 use Rattle.affine_prover.specs.Elimination.{elimination}
 use Rattle.ob_check.specs.Answers.{is_refused}
-use Rattle.check_facts.specs.Contexts.{context_of}
-use Rattle.bounds_check.specs.Limits.{are_within}
+use Rattle.check_facts.specs.Contexts.{context_of, context_fits}
 use Rattle.exo_effects.specs.Accesses.{Access, accesses_of}
 use Rattle.exo_effects.specs.Orders.{Order, order_of}
-use Rattle.exo_effects.specs.Limits as effects
+use Rattle.exo_effects.specs.Limits.{are_within, unless_refused}
 use Rattle.exo_effects.specs.Conflicts as conflicts
-use Rattle.exo_effects.specs.Conflicts.{Fault, Listing, pair_fault, past_these, clashing}
+use Rattle.exo_effects.specs.Conflicts.{Fault, ManySystems, Listing, Refuses, pair_fault}
+use Rattle.exo_effects.specs.Conflicts.{past_these, clashing}
 use Rattle.exo_meaning.specs.Orders.{Each}
 use Rattle.unit_check.specs.Checked.{NotShown, first_open}
 use Rattle.unit_check.proofs.Made.{IsMade, first_shown, each_both, made_cases, made_pair}
-use Rattle.cursor_forward.specs.Causes.{FormFault}
+use Rattle.cursor_forward.specs.Causes.{FormFault, TooManySystems}
 use Rattle.step_rules.specs.Rule.{Tried, Got, Target, Need, Says, Apart}
-use Rattle.step_rules.specs.Owing.{claim_of, fact_text, owed_for, need_fault, unless_refused}
+use Rattle.step_rules.specs.Owing.{claim_of, fact_text, owed_for, need_fault, refused}
 use Rattle.step_rules.specs.Owing.{owed_behind, owed_needs, listed}
 
 -- ---- two lists, one behind the other
@@ -43,20 +43,20 @@ second_none [] ys h = h
 second_none (x ∷ xs) ys h = second_none xs ys (first_shown x (xs ++ ys) h).1
 
 -- what is listed of conflicts, behind what is owed already
-module _ (ctx : List Formula) (order : Order) (place : Path) (base : ℕ) where
+module _ (fits : Bool) (ctx : List Formula) (order : Order) (place : Path) (base : ℕ) where
   made_unless : (f : Option Fault) (within : Bool) (rest : Listing) → Each IsMade (listed rest)
-      → Each IsMade (listed (conflicts.unless_refused ctx order place base f within rest))
+      → Each IsMade (listed (unless_refused Refuses ManySystems f within rest))
   made_unless (Some fault) within rest is = tt
   made_unless None true rest is = is
   made_unless None false rest is = tt
 
   made_pairs : (ps : List (Access × Access)) (os : List Owed) → Each IsMade os
-      → Each IsMade (listed (conflicts.owed_behind ctx order place base os ps))
+      → Each IsMade (listed (conflicts.owed_behind fits ctx order place base os ps))
   made_pairs [] os is = is
   made_pairs (p ∷ ps) os is =
       let more = os ++ conflicts.owed_for ctx order place base p in
-      made_unless (pair_fault ctx order place base p) (effects.are_within more)
-      (conflicts.owed_behind ctx order place base more ps)
+      made_unless (pair_fault fits ctx order place base p) (are_within more)
+      (conflicts.owed_behind fits ctx order place base more ps)
       (made_pairs ps more
       (each_both IsMade os (conflicts.owed_for ctx order place base p) is
       (made_pair ctx order place base p)))
@@ -71,10 +71,10 @@ module _ (t : Target) where
       let order = order_of k.first.loops k.second.loops k.order in
       let xs = accesses_of t.unit t.proc k.first.path k.first.count in
       let ys = accesses_of t.unit t.proc k.second.path k.second.count in
-      made_pairs ctx order path (past_these ctx order xs ys) (clashing xs ys) [] tt
+      made_pairs (context_fits t.unit t.proc path) ctx order path (past_these ctx order xs ys) (clashing xs ys) [] tt
 
   unrefused : (f : Option FormFault) (within : Bool) (rest : Tried (List Owed)) (must : List Owed)
-      → unless_refused t f within rest ≡ Got must → rest ≡ Got must
+      → unless_refused refused TooManySystems f within rest ≡ Got must → rest ≡ Got must
   unrefused (Some fault) within rest must h = cc
   unrefused None true rest must h = h
   unrefused None false rest must h = cc

@@ -2,7 +2,7 @@
 use Rattle.std.proofs.Common.{◌≡◌, ◌≤◌, ◌<◌, ◌+◌, ◌*◌, ◌^◌, ℕ, zero, suc, max, Bool, true, false}
 use Rattle.std.proofs.Common.{List, [], ◌∷◌, ◌++◌, map, length, Option, Some, None, refl, sym, ap}
 use Rattle.std.proofs.Common.{◌∙◌, subst, arith}
-use Rattle.std.specs.Prelude.{slice_get, nat_lt, nat_le, if◌then◌else◌, option_and_then, Contains}
+use Rattle.std.specs.Prelude.{slice_get, nat_lt, nat_le, if◌then◌else◌, Contains}
 use Rattle.std.specs.List.{list_all}
 use Rattle.exo_tree.specs.Tree.{Procedure}
 use Rattle.exo_tree.specs.Places.{Path}
@@ -10,8 +10,7 @@ use Rattle.exo_meaning.specs.Orders.{Each}
 use Rattle.exo_meaning.specs.Units.{bound_ids}
 use Rattle.meaning_laws.proofs.Substitute.{and_parts}
 use Rattle.meaning_laws.proofs.Parts.{some_injective}
-use Rattle.config_laws.specs.Differing as config
-use Rattle.config_laws.specs.Differing.{step_fields}
+use Rattle.config_laws.specs.Differing.{Origin, parent_in, step_fields}
 use Rattle.config_laws.specs.FieldRule.{fields_at_end}
 use Rattle.bounds_check.specs.Obligations.{Fault, list_fault}
 use Rattle.unit_check.specs.Checked as unit_check
@@ -30,7 +29,7 @@ use Rattle.step_rules.specs.Lawful.{IsLawful}
 use Rattle.step_rules.proofs.Found.{both_kept}
 use Rattle.step_rules.proofs.Proposals.{proposal_of}
 use Rattle.schedule_calls.specs.Requests.{Move}
-use Rattle.schedule_laws.specs.Versions.Versions.{Origin, of_text, configured, Held, Versions}
+use Rattle.schedule_laws.specs.Versions.Versions.{of_text, Held, Versions}
 use Rattle.schedule_laws.specs.Versions.Versions.{version_at, held, version_of, with_step}
 use Rattle.schedule_laws.specs.Versions.Places.{Sought, Got, Lost, Place, then_seek}
 use Rattle.schedule_laws.specs.Versions.Places.{moved_at, matched}
@@ -87,6 +86,7 @@ named : (v : Versions) (names : List (List ℕ × Held)) (emitted : List ℕ) (s
     → AreDerived (record {
       unit = v.unit;
       origins = v.origins;
+      edits = v.edits;
       names = names;
       emitted = emitted;
       steps = steps;
@@ -220,18 +220,18 @@ module _ (laws : StepLaws) (v : Versions) (n : ℕ) (d : AreDerived v) (room : H
   -- ---- operators
 
   ruled_arrives : (name : List ℕ) (k : ℕ) (p : Procedure) → version_at v k ≡ Some p → (call : Call)
-      → IsLawfulCall call → (cs : List Cursor) (t : Tried Ruled) → call.rule (target v k p) cs ≡ t
+      → IsLawfulCall call → (cs : List Cursor) (t : Tried Ruled) → call.rule v (target v k p) cs ≡ t
       → Arrives (ruled_step v name k p t)
   ruled_arrives name k p there call is cs (rule.Not cause) e = refused _
   ruled_arrives name k p there call is cs (rule.Got r) e =
-      proposed_arrives name k p there r.rule (is.lawful (target v k p) cs r e)
-      (is.fields (target v k p) cs r e) r.at (proposed r.rule (target v k p) r.at) refl
+      proposed_arrives name k p there r.rule (is.lawful v (target v k p) cs r e)
+      (is.fields v (target v k p) cs r e) r.at (proposed r.rule (target v k p) r.at) refl
 
   found_arrives : (name : List ℕ) (k : ℕ) (p : Procedure) → version_at v k ≡ Some p → (call : Call)
       → IsLawfulCall call → (s : Sought (List Cursor)) → Arrives (found_step v name k p call s)
   found_arrives name k p there call is (Lost why) = refused _
   found_arrives name k p there call is (Got cs) =
-      ruled_arrives name k p there call is cs (call.rule (target v k p) cs) refl
+      ruled_arrives name k p there call is cs (call.rule v (target v k p) cs) refl
 
   test_arrives : (b : Bool) (one : Progress) (why : Why) → Arrives one
       → Arrives (if b then one else Refused why)
@@ -273,7 +273,9 @@ module _ (laws : StepLaws) (v : Versions) (n : ℕ) (d : AreDerived v) (room : H
 
   pub act_arrives : (a : Act) → IsLawfulAct a → Arrives (performed v a)
   act_arrives (Faulty why) is = refused why
-  act_arrives (Apply name of call) is = called_arrives name call is (version_of v of)
+  act_arrives (Apply name of call) is =
+      test_arrives (call.formed v) (called v name call (version_of v of)) BadArguments
+      (called_arrives name call is (version_of v of))
   act_arrives (Search name of pattern nth moves) is =
       searched_arrives name pattern nth moves (version_of v of)
   act_arrives (Moved name of moves) is =
@@ -310,7 +312,7 @@ run_is_derived laws acts v w is d room h = runs laws 0 acts v w is d room h
 -- ---- the beginning
 
 no_parent : (ps : List Procedure) (k : ℕ)
-    → option_and_then (λ (o : Origin). o.parent) (slice_get (map (λ p. of_text) ps) k) ≡ None
+    → parent_in (map (λ p. of_text) ps) k ≡ None
 no_parent [] zero = refl
 no_parent [] (suc k) = refl
 no_parent (p ∷ ps) zero = refl
@@ -323,22 +325,22 @@ as_long (p ∷ ps) = ap suc (as_long ps)
 none_some : {A : Type 0} {x : A} → None ≡ Some x → ⊥
 none_some h = cc
 
-text_origin : (ps : List Procedure) (k : ℕ) (o : config.Origin)
-    → slice_get (map configured (map (λ p. of_text) ps)) k ≡ Some o → o.fields ≡ []
+text_origin : (ps : List Procedure) (k : ℕ) (o : Origin)
+    → slice_get (map (λ p. of_text) ps) k ≡ Some o → o.fields ≡ []
 text_origin [] zero o h = absurd (none_some h)
 text_origin [] (suc k) o h = absurd (none_some h)
 text_origin (p ∷ ps) zero o h = by h
   where
-    by : Some (configured of_text) ≡ Some o → o.fields ≡ []
-    by h = ap (λ (z : config.Origin). z.fields) (some_injective o (configured of_text) (sym h))
+    by : Some of_text ≡ Some o → o.fields ≡ []
+    by h = ap (λ (z : Origin). z.fields) (some_injective o of_text (sym h))
 text_origin (p ∷ ps) (suc k) o h = text_origin ps k o h
 
 no_fields : (all ps : List Procedure) (k : ℕ)
-    → step_fields all (map configured (map (λ p. of_text) ps)) k ≡ []
-no_fields all ps k = by (slice_get (map configured (map (λ (p : Procedure). of_text) ps)) k) refl
+    → step_fields all (map (λ p. of_text) ps) k ≡ []
+no_fields all ps k = by (slice_get (map (λ (p : Procedure). of_text) ps) k) refl
   where
-    by : (o : Option config.Origin)
-        → slice_get (map configured (map (λ (p : Procedure). of_text) ps)) k ≡ o
+    by : (o : Option Origin)
+        → slice_get (map (λ (p : Procedure). of_text) ps) k ≡ o
         → elim o as (λ o. List ℕ) [
           | None ↦ []
           | Some o ↦ elim (slice_get all k) as (λ q. List ℕ) [

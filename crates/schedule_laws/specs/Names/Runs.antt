@@ -3,21 +3,16 @@ use Rattle.std.specs.Prelude.{◌≡◌, ⊤, ℕ, List}
 use Rattle.exo_tree.specs.Tree.{Program}
 use Rattle.exo_meaning.specs.Orders.{Each}
 use Rattle.text_show_laws.specs.Named.{AreNamed}
-use Rattle.cursor_forward.specs.Cursors.{Cursor}
-use Rattle.step_rules.specs.Rule.{Target, Got}
 use Rattle.schedule_laws.specs.Versions.Versions.{Versions, started}
-use Rattle.schedule_laws.specs.Versions.Lines.{Ruled, Call, Act, Faulty, Apply, Search, Moved, Emit}
+use Rattle.schedule_laws.specs.Versions.Lines.{Act, Faulty, Apply, Search, Moved, Emit}
 use Rattle.schedule_laws.specs.Versions.Lines.{Done, run_acts}
+use Rattle.schedule_laws.specs.Versions.Laws.{EachRule}
 use Rattle.schedule_laws.specs.Names.Rules.{IsNaming}
 
 -- every rule of an operator gives names of the grammar
-abbrev pub IsNamingCall : Call → Type 0
-IsNamingCall call =
-    (t : Target) (cs : List Cursor) (r : Ruled) → call.rule t cs ≡ Got r → IsNaming r.rule
-
 abbrev pub IsNamingAct : Act → Type 0
 IsNamingAct (Faulty why) = ⊤
-IsNamingAct (Apply name of call) = IsNamingCall call
+IsNamingAct (Apply name of call) = EachRule IsNaming call
 IsNamingAct (Search name of pattern nth moves) = ⊤
 IsNamingAct (Moved name of moves) = ⊤
 IsNamingAct (Emit name) = ⊤

@@ -8,39 +8,17 @@ use Rattle.text_show_laws.specs.Named.{AreNamed}
 use Rattle.text_show_laws.specs.Writable.{IsWritable}
 use Rattle.unit_check.specs.Faults.{NothingFaults}
 use Rattle.schedule_text.specs.Tree as tree
-use Rattle.schedule_calls.specs.Requests.{Operation, DivideLoop, CutLoop, MultLoops, ShiftLoop}
-use Rattle.schedule_calls.specs.Requests.{ReorderLoops, Fission, Fuse, JoinLoops, UnrollLoop}
-use Rattle.schedule_calls.specs.Requests.{RemoveLoop, LiftScope, Specialize}
-use Rattle.schedule_calls.specs.Requests.{EliminateDeadCode, ReorderStmts, CommuteExpr, Rename}
-use Rattle.schedule_calls.specs.Requests.{DeletePass, Request, Apply, Search, Moved, Emit}
+use Rattle.schedule_calls.specs.Requests.{Request, Apply, Search, Moved, Emit}
 use Rattle.schedule_calls.specs.Readings.{Asks}
 use Rattle.schedule_laws.specs.Versions.Versions.{Versions, started}
 use Rattle.schedule_laws.specs.Versions.Lines.{Done, run_acts}
 use Rattle.schedule_laws.specs.Versions.Laws.{HasRoom}
 use Rattle.schedule_laws.specs.Operators.Operators.{act_of}
+use Rattle.schedule_laws.specs.Operators.Rules.{Takes}
 
--- the names that an operator is given are of the grammar
-abbrev pub TakesNames : Operation → Type 0
-TakesNames (DivideLoop at d) = IsName d.outer × IsName d.inner
-TakesNames (CutLoop at e) = ⊤
-TakesNames (MultLoops at name) = IsName name
-TakesNames (ShiftLoop at e) = ⊤
-TakesNames (ReorderLoops at) = ⊤
-TakesNames (Fission at) = ⊤
-TakesNames (Fuse at) = ⊤
-TakesNames (JoinLoops at) = ⊤
-TakesNames (UnrollLoop at) = ⊤
-TakesNames (RemoveLoop at) = ⊤
-TakesNames (LiftScope at) = ⊤
-TakesNames (Specialize at c) = ⊤
-TakesNames (EliminateDeadCode at keep) = ⊤
-TakesNames (ReorderStmts at) = ⊤
-TakesNames (CommuteExpr at x) = ⊤
-TakesNames (Rename name) = IsName name
-TakesNames DeletePass = ⊤
-
+-- the names that a line gives to an operator are of the grammar
 abbrev pub GivesNames : Request → Type 0
-GivesNames (Apply bind of o) = TakesNames o
+GivesNames (Apply bind of o) = Takes IsName o
 GivesNames (Search bind of pattern nth moves) = ⊤
 GivesNames (Moved bind of moves) = ⊤
 GivesNames (Emit name) = ⊤

@@ -1,15 +1,21 @@
--- A schedule that is run on a procedure with a `pass` too many: a cursor in it follows its statement
--- into the version without the `pass`, where an operator takes it.
+-- A schedule that is run on a procedure with a `pass` too many: a cursor in it follows its
+-- statement into the version without the `pass`, where an operator takes it.
 use Rattle.std.specs.Prelude.{◌≡◌, ℕ, pos, true, false, List, [], ◌∷◌, None, Some, codes, map}
 use Rattle.exo_tree.specs.Tree.{I32, Const, Plus, Assign, Pass, Block, end, next}
 use Rattle.exo_tree.specs.Tree.{TensorParam, Procedure, MemoryKind, Program}
 use Rattle.cursor_patterns.specs.Patterns as pattern
 use Rattle.cursor_forward.specs.Causes.{WrongShape}
-use Rattle.cursor_forward.specs.Cursors.{Before, Node}
-use Rattle.cursor_forward.specs.Shifts.{Shift, at_index, stays, edits_of, alone}
-use Rattle.schedule_calls.specs.Requests.{CommuteExpr, Rename, DeletePass, Under, Here}
+use Rattle.config_laws.specs.FieldRule.{Before}
+use Rattle.config_laws.specs.Differing.{Origin}
+use Rattle.cursor_forward.specs.Cursors.{Node}
+use Rattle.cursor_forward.specs.Shifts.{Shift, Edits, at_index, stays, edits_of, alone}
+use Rattle.schedule_calls.specs.declared.operator.CursorOperator.{CursorOperator}
+use Rattle.schedule_calls.specs.declared.operator.WholeOperator.TheVariants.{DeletePass}
+use Rattle.schedule_calls.specs.Requests.{Operation, At, Whole, Rename, Alone, CommuteExpr}
+use Rattle.schedule_calls.specs.Requests.{Under, Here}
 use Rattle.schedule_calls.specs.Requests.{Request, Apply, Search, Emit, Asked, Parent}
-use Rattle.schedule_laws.specs.Versions.Versions.{Origin, of_text, Version, At, Versions, started}
+use Rattle.schedule_laws.specs.Versions.Versions.{of_text, unmoved, Version, Versions, started}
+use Rattle.schedule_laws.specs.Versions.Versions as versions
 use Rattle.schedule_laws.specs.Versions.Laws.{AreDerived}
 use Rattle.schedule_laws.specs.Versions.Places as place
 use Rattle.schedule_laws.specs.Versions.Lines as lines
@@ -56,6 +62,10 @@ unit = record { procedures = first ∷ []; fields = []; memories = dram ∷ [] }
 
 -- ---- the schedule
 
+-- an operator that takes nothing more than its cursor
+abbrev pub alone_at : CursorOperator → Asked → Operation
+alone_at o at = At at (Alone o)
+
 abbrev pub sum : pattern.ExprPattern
 sum = record { form = pattern.Add; nth = 0 }
 
@@ -67,22 +77,21 @@ schedule =
     -- c = find(f, 'x = _')
     Search (codes "c") (codes "f") (pattern.Assign (Some (codes "x"))) 0 []
     -- p = delete_pass(f)
-    ∷ Apply (codes "p") (codes "f") DeletePass
+    ∷ Apply (codes "p") (codes "f") (Whole DeletePass)
     -- q = commute_expr(p, c, '_ + _')
-    ∷ Apply (codes "q") (codes "p") (CommuteExpr of_c sum)
+    ∷ Apply (codes "q") (codes "p") (At of_c (CommuteExpr sum))
     -- r = rename(q, 'g')
     ∷ Apply (codes "r") (codes "q") (Rename (codes "g"))
     -- emit(r)
     ∷ Emit (codes "r") ∷ []
 
-abbrev pub made : ℕ → ℕ → ℕ → List Shift → Origin
-made k old new shifts = record {
-  parent = Some k;
-  edits = edits_of (at_index 0) old new shifts;
-  place = [];
-  side = Before;
-  fields = [];
-}
+-- made of a version by a step that leaves no field that may differ
+abbrev pub child_of : ℕ → Origin
+child_of k = record { parent = Some k; place = []; side = Before; fields = [] }
+
+-- so many statements at the head of the body became so many
+abbrev pub at_head : ℕ → ℕ → List Shift → Edits
+at_head old new shifts = edits_of (at_index 0) old new shifts
 
 abbrev pub result : Versions
 result = record {
@@ -93,14 +102,15 @@ result = record {
         ∷ procedure (codes "f") (sum_of 2 1)
         ∷ procedure (codes "g") (sum_of 2 1) ∷ [];
   };
-  origins =
-      of_text
-      ∷ made 0 2 1 (alone (at_index 1) (Some (at_index 0)) ∷ [])
-      ∷ made 1 1 1 (stays 1)
-      ∷ made 2 0 0 [] ∷ [];
+  origins = of_text ∷ child_of 0 ∷ child_of 1 ∷ child_of 2 ∷ [];
+  edits =
+      unmoved
+      ∷ at_head 2 1 (alone (at_index 1) (Some (at_index 0)) ∷ [])
+      ∷ at_head 1 1 (stays 1)
+      ∷ at_head 0 0 [] ∷ [];
   names =
       (codes "f", Version 0)
-      ∷ (codes "c", At 0 (Node (at_index 1)))
+      ∷ (codes "c", versions.At 0 (Node (at_index 1)))
       ∷ (codes "p", Version 1)
       ∷ (codes "q", Version 2)
       ∷ (codes "r", Version 3) ∷ [];
@@ -118,20 +128,21 @@ ran requests = run_acts (map act_of requests) (started unit 0)
 abbrev pub gone : List Request
 gone =
     Search (codes "c") (codes "f") pattern.Pass 0 []
-    ∷ Apply (codes "p") (codes "f") DeletePass
-    ∷ Apply (codes "q") (codes "p") (CommuteExpr of_c sum) ∷ []
+    ∷ Apply (codes "p") (codes "f") (Whole DeletePass)
+    ∷ Apply (codes "q") (codes "p") (At of_c (CommuteExpr sum)) ∷ []
 
 -- p = rename(f, 'g'), c = find(p, 'pass'), q = commute_expr(f, c, '_ + _'): f was not made of p
 abbrev pub of_other : List Request
 of_other =
     Apply (codes "p") (codes "f") (Rename (codes "g"))
     ∷ Search (codes "c") (codes "p") pattern.Pass 0 []
-    ∷ Apply (codes "q") (codes "f") (CommuteExpr of_c sum) ∷ []
+    ∷ Apply (codes "q") (codes "f") (At of_c (CommuteExpr sum)) ∷ []
 
 -- p = commute_expr(NAME, 'pass #NTH', '_ + _')
 abbrev pub commuted : List ℕ → ℕ → List Request
 commuted name nth =
-    Apply (codes "p") name (CommuteExpr (record { source = Here pattern.Pass nth; moves = [] }) sum)
+    Apply (codes "p") name
+    (At (record { source = Here pattern.Pass nth; moves = [] }) (CommuteExpr sum))
     ∷ []
 
 pub record ScheduleInstance : Type 0 where

@@ -12,16 +12,18 @@ use Rattle.cursor_patterns.specs.Patterns as pattern
 use Rattle.cursor_forward.specs.Causes.{WrongShape, OutOfScope, LimitPassed}
 use Rattle.cursor_forward.specs.Shifts.{at_index, stays, alone, range, edits_of}
 use Rattle.loop_laws.specs.Shapes.{inside}
-use Rattle.schedule_calls.specs.Requests.{Guard, Asked, Here, Parent, After, Expand, Operation}
-use Rattle.schedule_calls.specs.Requests.{DivideLoop, CutLoop, UnrollLoop, Specialize}
+use Rattle.schedule_calls.specs.declared.operator.CursorOperator.TheVariants.{UnrollLoop}
+use Rattle.schedule_calls.specs.declared.operator.ControlOperator.TheVariants.{CutLoop}
+use Rattle.schedule_calls.specs.Requests.{Guard, Asked, Here, Parent, After, Expand, Operation, At}
+use Rattle.schedule_calls.specs.Requests.{DivideLoop, WithControl, Specialize}
 use Rattle.schedule_calls.specs.Requests.{Request, Apply, Emit}
-use Rattle.schedule_laws.specs.Versions.Versions.{Version, of_text, Versions, started}
+use Rattle.schedule_laws.specs.Versions.Versions.{Version, of_text, unmoved, Versions, started}
 use Rattle.schedule_laws.specs.Versions.Places as place
 use Rattle.schedule_laws.specs.Versions.Lines as lines
 use Rattle.schedule_laws.specs.Versions.Lines.{Outcome, Done, Stopped, run_acts}
 use Rattle.schedule_laws.specs.Operators.Operators.{act_of}
 use Rattle.schedule_laws.specs.Operators.Instance as instance
-use Rattle.schedule_laws.specs.Operators.Instance.{procedure, made}
+use Rattle.schedule_laws.specs.Operators.Instance.{procedure, alone_at, child_of, at_head}
 
 -- ---- the unit
 
@@ -49,23 +51,23 @@ the_body = record { source = Here (pattern.Assign (Some (codes "x"))) 0; moves =
 -- divide_loop(_, 'i', BY, ['io', 'ii'])
 abbrev pub divided : ℕ → Operation
 divided by =
-    DivideLoop the_loop
-    (record { by = by; outer = codes "io"; inner = codes "ii"; tail = Guard })
+    At the_loop
+    (DivideLoop (record { by = by; outer = codes "io"; inner = codes "ii"; tail = Guard }))
 
 -- cut_loop(_, 'i', E)
 abbrev pub cut_at : Tree → Operation
-cut_at e = CutLoop the_loop e
+cut_at e = At the_loop (WithControl CutLoop e)
 
 -- unroll_loop(_, 'i')
 abbrev pub unrolled : Operation
-unrolled = UnrollLoop the_loop
+unrolled = alone_at UnrollLoop the_loop
 
 -- specialize(_, 'x = _', 'i < 1')
 abbrev pub below_one : Tree
 below_one = binary operator.Lt (variable (codes "i")) (number (Value 1))
 
 abbrev pub specialized : Operation
-specialized = Specialize the_body below_one
+specialized = At the_body (Specialize below_one)
 
 -- C.f, of which the unit has none
 abbrev pub no_field : Tree
@@ -116,15 +118,14 @@ result = record {
         ∷ procedure (codes "f") in_branches
         ∷ procedure (codes "f") (next (Assign 0 [] (Const (pos 1))) one) ∷ [];
   };
-  origins =
-      of_text
-      ∷ made 0 1 1
+  origins = of_text ∷ child_of 0 ∷ child_of 0 ∷ child_of 0 ∷ child_of 0 ∷ [];
+  edits =
+      unmoved
+      ∷ at_head 1 1
       (alone (at_index 0) (Some (at_index 0)) ∷ range (inside 1) 1 (Some (inside 3)) ∷ [])
-      ∷ made 0 1 2 (stays 1)
-      ∷ record (made 0 1 1 []) {
-        edits = edits_of (inside 1) 1 1 (range (at_index 0) 1 (Some (inside 1)) ∷ []);
-      }
-      ∷ made 0 1 2 (range (inside 1) 1 (Some (at_index 0)) ∷ []) ∷ [];
+      ∷ at_head 1 2 (stays 1)
+      ∷ edits_of (inside 1) 1 1 (range (at_index 0) 1 (Some (inside 1)) ∷ [])
+      ∷ at_head 1 2 (range (inside 1) 1 (Some (at_index 0)) ∷ []) ∷ [];
   names =
       (codes "f", Version 0)
       ∷ (codes "p", Version 1)
@@ -164,7 +165,7 @@ pub record LoopsInstance : Type 0 where
   -- groups of no turn
   pub no_group : refused (divided 0) (lines.Step WrongShape)
   -- no loop
-  pub no_loop : refused (UnrollLoop the_body) (lines.Step WrongShape)
+  pub no_loop : refused (alone_at UnrollLoop the_body) (lines.Step WrongShape)
   -- seq(0, 257)
   pub many_turns : alone_ran (Lit (pos 257)) unrolled ≡ Stopped 0 (lines.Step LimitPassed)
   -- cut at 3, which is not at most 2
@@ -173,13 +174,13 @@ pub record LoopsInstance : Type 0 where
   -- the loop's own variable is not in scope before the loop
   pub own_variable : refused (cut_at (variable (codes "i"))) (lines.Step OutOfScope)
   -- a field that is none is refused before the cursor is looked for
-  pub no_control : refused (CutLoop above_loop no_field) lines.UnknownName
-  pub no_condition : refused (Specialize above_loop no_field) lines.UnknownName
+  pub no_control : refused (At above_loop (WithControl CutLoop no_field)) lines.UnknownName
+  pub no_condition : refused (At above_loop (Specialize no_field)) lines.UnknownName
   pub no_neighbour :
-      refused (Specialize above_loop below_one) (lines.NoPlace place.NoNeighbour)
+      refused (At above_loop (Specialize below_one)) (lines.NoPlace place.NoNeighbour)
   -- a block, also of one statement, where a statement is asked
-  pub block_for_loop : refused (UnrollLoop block_of_one) (lines.Step WrongShape)
+  pub block_for_loop : refused (alone_at UnrollLoop block_of_one) (lines.Step WrongShape)
   -- a gap
-  pub gap_for_block : refused (Specialize behind_loop below_one) (lines.Step WrongShape)
+  pub gap_for_block : refused (At behind_loop (Specialize below_one)) (lines.Step WrongShape)
   -- a block may be specialized, and the condition is read before its first statement
-  pub before_block : refused (Specialize block_of_one below_one) (lines.Step OutOfScope)
+  pub before_block : refused (At block_of_one (Specialize below_one)) (lines.Step OutOfScope)

@@ -14,15 +14,18 @@ use Rattle.loop_laws.specs.Shapes.{inside}
 use Rattle.loop_laws.specs.Nest.Shapes.{step}
 use Rattle.proc_laws.specs.Statement.DeadCode.{in_branch}
 use Rattle.proc_laws.specs.Statement.ReorderStatements.{exchanged}
-use Rattle.schedule_calls.specs.Requests.{Asked, Here, Before, After, Operation, ReorderLoops}
-use Rattle.schedule_calls.specs.Requests.{Fission, Fuse, RemoveLoop, EliminateDeadCode}
-use Rattle.schedule_calls.specs.Requests.{ReorderStmts, Request, Apply, Emit}
-use Rattle.schedule_laws.specs.Versions.Versions.{Version, of_text, Versions, started}
+use Rattle.schedule_calls.specs.declared.operator.CursorOperator.TheVariants.{ReorderLoops, Fission}
+use Rattle.schedule_calls.specs.declared.operator.CursorOperator.TheVariants.{Fuse}
+use Rattle.schedule_calls.specs.declared.operator.CursorOperator.TheVariants.{RemoveLoop}
+use Rattle.schedule_calls.specs.declared.operator.CursorOperator.TheVariants.{ReorderStmts}
+use Rattle.schedule_calls.specs.Requests.{Asked, Here, Before, After, Operation, At}
+use Rattle.schedule_calls.specs.Requests.{EliminateDeadCode, Request, Apply, Emit}
+use Rattle.schedule_laws.specs.Versions.Versions.{Version, of_text, unmoved, Versions, started}
 use Rattle.schedule_laws.specs.Versions.Lines as lines
 use Rattle.schedule_laws.specs.Versions.Lines.{Outcome, Done, Stopped, run_acts}
 use Rattle.schedule_laws.specs.Operators.Operators.{act_of}
 use Rattle.schedule_laws.specs.Operators.Instance as instance
-use Rattle.schedule_laws.specs.Operators.Instance.{made}
+use Rattle.schedule_laws.specs.Operators.Instance.{alone_at, child_of, at_head}
 
 -- ---- the unit
 
@@ -117,19 +120,19 @@ gap_before at = record at { moves = Before ∷ [] }
 abbrev pub schedule : List Request
 schedule =
     -- p = fission(f, gap behind 'x = _')
-    Apply (codes "p") (codes "f") (Fission (gap_behind the_write))
+    Apply (codes "p") (codes "f") (alone_at Fission (gap_behind the_write))
     -- q = fuse(p, 'i')
-    ∷ Apply (codes "q") (codes "p") (Fuse the_loop)
+    ∷ Apply (codes "q") (codes "p") (alone_at Fuse the_loop)
     -- r = reorder_stmts(q, 'x = _')
-    ∷ Apply (codes "r") (codes "q") (ReorderStmts the_write)
+    ∷ Apply (codes "r") (codes "q") (alone_at ReorderStmts the_write)
     -- s = remove_loop(r, 'i')
-    ∷ Apply (codes "s") (codes "r") (RemoveLoop the_loop)
+    ∷ Apply (codes "s") (codes "r") (alone_at RemoveLoop the_loop)
     -- t = reorder_loops(g, 'i')
-    ∷ Apply (codes "t") (codes "g") (ReorderLoops the_loop)
+    ∷ Apply (codes "t") (codes "g") (alone_at ReorderLoops the_loop)
     -- u = eliminate_dead_code(h, 'if _: _', keep='body')
-    ∷ Apply (codes "u") (codes "h") (EliminateDeadCode the_fork (Some Main))
+    ∷ Apply (codes "u") (codes "h") (At the_fork (EliminateDeadCode (Some Main)))
     -- v = eliminate_dead_code(u, 'i')
-    ∷ Apply (codes "v") (codes "u") (EliminateDeadCode the_loop None)
+    ∷ Apply (codes "v") (codes "u") (At the_loop (EliminateDeadCode None))
     -- emit(v)
     ∷ Emit (codes "v") ∷ []
 
@@ -152,22 +155,33 @@ result = record {
       of_text
       ∷ of_text
       ∷ of_text
-      ∷ made 0 1 2
+      ∷ child_of 0
+      ∷ child_of 3
+      ∷ child_of 4
+      ∷ child_of 5
+      ∷ child_of 1
+      ∷ child_of 2
+      ∷ child_of 8 ∷ [];
+  edits =
+      unmoved
+      ∷ unmoved
+      ∷ unmoved
+      ∷ at_head 1 2
       (alone (at_index 0) (Some (at_index 0))
       ∷ range (inside 1) 1 (Some (inside 1))
       ∷ range (step 0 ∷ at_index 1) 1 (Some (step 1 ∷ at_index 0)) ∷ [])
-      ∷ made 3 2 1
+      ∷ at_head 2 1
       (alone (at_index 0) (Some (at_index 0))
       ∷ range (inside 1) 1 (Some (inside 1))
       ∷ range (step 1 ∷ at_index 0) 1 (Some (step 0 ∷ at_index 1)) ∷ [])
-      ∷ record (made 4 2 2 []) { edits = edits_of (inside 1) 2 2 exchanged }
-      ∷ made 5 1 2 (range (inside 1) 2 (Some (at_index 0)) ∷ [])
-      ∷ made 1 1 1
+      ∷ edits_of (inside 1) 2 2 exchanged
+      ∷ at_head 1 2 (range (inside 1) 2 (Some (at_index 0)) ∷ [])
+      ∷ at_head 1 1
       (alone (at_index 0) (Some (inside 1))
       ∷ alone (inside 1) (Some (at_index 0))
       ∷ range (inside 2) 1 (Some (inside 2)) ∷ [])
-      ∷ made 2 1 1 (range (in_branch Main) 1 (Some (at_index 0)) ∷ [])
-      ∷ made 8 1 1 [] ∷ [];
+      ∷ at_head 1 1 (range (in_branch Main) 1 (Some (at_index 0)) ∷ [])
+      ∷ at_head 1 1 [] ∷ [];
   names =
       (codes "f", Version 0)
       ∷ (codes "g", Version 1)
@@ -215,28 +229,30 @@ pub record OrderInstance : Type 0 where
   pub runs : ran schedule ≡ Done result
   -- x is written in another order
   pub turns_clash :
-      refused (loop_i 0 2 (loop_j 0 2 (alone_is (x_is 1)))) (ReorderLoops the_loop) clash
+      refused (loop_i 0 2 (loop_j 0 2 (alone_is (x_is 1)))) (alone_at ReorderLoops the_loop) clash
   pub parts_clash :
-      refused (loop_i 0 2 (both (x_is 1) (x_is 2))) (Fission (gap_behind the_write)) clash
-  pub loops_clash : refused (two_loops (codes "j") (x_is 1) (x_is 2)) (Fuse the_loop) clash
-  pub statements_clash : refused (both (x_is 1) (x_is 2)) (ReorderStmts the_write) clash
+      refused (loop_i 0 2 (both (x_is 1) (x_is 2))) (alone_at Fission (gap_behind the_write)) clash
+  pub loops_clash : refused (two_loops (codes "j") (x_is 1) (x_is 2)) (alone_at Fuse the_loop) clash
+  pub statements_clash : refused (both (x_is 1) (x_is 2)) (alone_at ReorderStmts the_write) clash
   -- a statement where a gap is asked, a gap in no loop, and a gap before all statements of one
-  pub no_gap : refused in_one (Fission the_write) (lines.Step WrongShape)
-  pub gap_outside : refused in_one (Fission (gap_behind the_loop)) (lines.Step WrongShape)
-  pub first_gap : refused in_one (Fission (gap_before the_write)) (lines.Step WrongShape)
+  pub no_gap : refused in_one (alone_at Fission the_write) (lines.Step WrongShape)
+  pub gap_outside : refused in_one (alone_at Fission (gap_behind the_loop)) (lines.Step WrongShape)
+  pub first_gap : refused in_one (alone_at Fission (gap_before the_write)) (lines.Step WrongShape)
   -- a gap where a statement is asked
-  pub gap_for_loop : refused in_one (RemoveLoop (gap_behind the_loop)) (lines.Step WrongShape)
+  pub gap_for_loop :
+      refused in_one (alone_at RemoveLoop (gap_behind the_loop)) (lines.Step WrongShape)
   -- each turn adds to what the turns before it left
-  pub turns_differ : refused (each_turn x_grows) (RemoveLoop the_loop) (lines.Step NotIdempotent)
+  pub turns_differ :
+      refused (each_turn x_grows) (alone_at RemoveLoop the_loop) (lines.Step NotIdempotent)
   -- seq(3, 3) has no turn, and seq(0, 2) has one
-  pub no_first_turn : refused no_turn (RemoveLoop the_loop) (not_shown (codes "3 < 3"))
+  pub no_first_turn : refused no_turn (alone_at RemoveLoop the_loop) (not_shown (codes "3 < 3"))
   pub has_turns :
-      refused (each_turn (x_is 1)) (EliminateDeadCode the_loop None)
+      refused (each_turn (x_is 1)) (At the_loop (EliminateDeadCode None))
       (not_shown (codes "2 <= 0"))
   -- the branch behind `else` is not the one that is taken
   pub not_taken :
-      refused dead (EliminateDeadCode the_fork (Some Else)) (not_shown (codes "not (0 < 1)"))
+      refused dead (At the_fork (EliminateDeadCode (Some Else))) (not_shown (codes "not (0 < 1)"))
   -- a condition without the branch that is kept, and a loop with it
-  pub no_key : refused dead (EliminateDeadCode the_fork None) (lines.Step WrongShape)
+  pub no_key : refused dead (At the_fork (EliminateDeadCode None)) (lines.Step WrongShape)
   pub key_of_loop :
-      refused no_turn (EliminateDeadCode the_loop (Some Main)) (lines.Step WrongShape)
+      refused no_turn (At the_loop (EliminateDeadCode (Some Main))) (lines.Step WrongShape)

@@ -1,4 +1,5 @@
--- A schedule that joins, shifts and multiplies loops and lifts a condition, and what is refused of it.
+-- A schedule that joins, shifts and multiplies loops and lifts a condition, and what is refused of
+-- it.
 use Rattle.std.specs.Prelude.{◌≡◌, ℕ, pos, List, [], ◌∷◌, Some, codes, map}
 use Rattle.exo_tree.specs.Tree.{Lit, Add, Sub, Mul, Lt, Block, Program}
 use Rattle.text_lexer.specs.declared.token.Literal.TheVariants.{Value}
@@ -12,14 +13,16 @@ use Rattle.cursor_forward.specs.Causes.{WrongShape, NameTaken}
 use Rattle.cursor_forward.specs.Shifts.{at_index, stays, alone, range, edits_of}
 use Rattle.loop_laws.specs.Shapes.{inside}
 use Rattle.proc_laws.specs.Statement.LiftScope.{turned_round, else_in_loop, loop_in_else}
-use Rattle.schedule_calls.specs.Requests.{Asked, Here, Operation, CutLoop, JoinLoops, MultLoops}
-use Rattle.schedule_calls.specs.Requests.{ShiftLoop, LiftScope, Specialize, Request, Apply}
-use Rattle.schedule_laws.specs.Versions.Versions.{Version, of_text, Versions, started}
+use Rattle.schedule_calls.specs.declared.operator.CursorOperator.TheVariants.{JoinLoops, LiftScope}
+use Rattle.schedule_calls.specs.declared.operator.ControlOperator.TheVariants.{CutLoop, ShiftLoop}
+use Rattle.schedule_calls.specs.Requests.{Asked, Here, Operation, At, WithControl, MultLoops}
+use Rattle.schedule_calls.specs.Requests.{Specialize, Request, Apply}
+use Rattle.schedule_laws.specs.Versions.Versions.{Version, of_text, unmoved, Versions, started}
 use Rattle.schedule_laws.specs.Versions.Lines as lines
 use Rattle.schedule_laws.specs.Versions.Lines.{Done, Stopped, run_acts}
 use Rattle.schedule_laws.specs.Operators.Operators.{act_of}
 use Rattle.schedule_laws.specs.Operators.Instance as instance
-use Rattle.schedule_laws.specs.Operators.Instance.{procedure, made}
+use Rattle.schedule_laws.specs.Operators.Instance.{procedure, alone_at, child_of, at_head}
 use Rattle.schedule_laws.specs.Operators.LoopInstance.{one, looping, in_two, the_loop, the_body}
 use Rattle.schedule_laws.specs.Operators.LoopInstance.{above_loop, no_field}
 
@@ -52,17 +55,17 @@ always = binary operator.Lt (number (Value 0)) (number (Value 1))
 abbrev pub schedule : List Request
 schedule =
     -- p = cut_loop(f, 'i', '1')
-    Apply (codes "p") (codes "f") (CutLoop the_loop (number (Value 1)))
+    Apply (codes "p") (codes "f") (At the_loop (WithControl CutLoop (number (Value 1))))
     -- q = join_loops(p, 'i')
-    ∷ Apply (codes "q") (codes "p") (JoinLoops the_loop)
+    ∷ Apply (codes "q") (codes "p") (alone_at JoinLoops the_loop)
     -- r = shift_loop(f, 'i', '3')
-    ∷ Apply (codes "r") (codes "f") (ShiftLoop the_loop (number (Value 3)))
+    ∷ Apply (codes "r") (codes "f") (At the_loop (WithControl ShiftLoop (number (Value 3))))
     -- s = mult_loops(g, 'i', 'k')
-    ∷ Apply (codes "s") (codes "g") (MultLoops the_loop (codes "k"))
+    ∷ Apply (codes "s") (codes "g") (At the_loop (MultLoops (codes "k")))
     -- t = specialize(f, 'x = _', '0 < 1')
-    ∷ Apply (codes "t") (codes "f") (Specialize the_body always)
+    ∷ Apply (codes "t") (codes "f") (At the_body (Specialize always))
     -- u = lift_scope(t, 'if _: _')
-    ∷ Apply (codes "u") (codes "t") (LiftScope the_fork) ∷ []
+    ∷ Apply (codes "u") (codes "t") (alone_at LiftScope the_fork) ∷ []
 
 -- for i in seq(3, 2 + 3 - 0): x = 1
 abbrev pub from_three : Block
@@ -106,15 +109,22 @@ result = record {
   origins =
       of_text
       ∷ of_text
-      ∷ made 0 1 2 (stays 1)
-      ∷ made 2 2 1 (stays 1)
-      ∷ made 0 1 1 (stays 1)
-      ∷ made 1 1 1
+      ∷ child_of 0
+      ∷ child_of 2
+      ∷ child_of 0
+      ∷ child_of 1
+      ∷ child_of 0
+      ∷ child_of 6 ∷ [];
+  edits =
+      unmoved
+      ∷ unmoved
+      ∷ at_head 1 2 (stays 1)
+      ∷ at_head 2 1 (stays 1)
+      ∷ at_head 1 1 (stays 1)
+      ∷ at_head 1 1
       (alone (at_index 0) (Some (at_index 0)) ∷ range (inside 2) 1 (Some (inside 1)) ∷ [])
-      ∷ record (made 0 1 1 []) {
-        edits = edits_of (inside 1) 1 1 (range (at_index 0) 1 (Some (inside 1)) ∷ []);
-      }
-      ∷ made 6 1 1 (range else_in_loop 1 (Some loop_in_else) ∷ turned_round 1) ∷ [];
+      ∷ edits_of (inside 1) 1 1 (range (at_index 0) 1 (Some (inside 1)) ∷ [])
+      ∷ at_head 1 1 (range else_in_loop 1 (Some loop_in_else) ∷ turned_round 1) ∷ [];
   names =
       (codes "f", Version 0)
       ∷ (codes "g", Version 1)
@@ -143,17 +153,19 @@ below_zero = binary operator.Sub (number (Value 0)) (number (Value 1))
 pub record ScopesInstance : Type 0 where
   pub runs : run_acts (map act_of schedule) (started unit 0) ≡ Done result
   -- no loop behind
-  pub none_behind : refused (codes "f") (JoinLoops the_loop) (lines.Step WrongShape)
+  pub none_behind : refused (codes "f") (alone_at JoinLoops the_loop) (lines.Step WrongShape)
   -- no loop in it
-  pub none_within : refused (codes "f") (MultLoops the_loop (codes "k")) (lines.Step WrongShape)
+  pub none_within :
+      refused (codes "f") (At the_loop (MultLoops (codes "k"))) (lines.Step WrongShape)
   -- the name of the parameter
-  pub name_taken : refused (codes "g") (MultLoops the_loop (codes "x")) (lines.Step NameTaken)
+  pub name_taken : refused (codes "g") (At the_loop (MultLoops (codes "x"))) (lines.Step NameTaken)
   -- from a negative number on
   pub from_below :
-      refused (codes "f") (ShiftLoop the_loop below_zero)
+      refused (codes "f") (At the_loop (WithControl ShiftLoop below_zero))
       (lines.NotShown (codes "0 <= 0 - 1") (at_index 0) Open)
   -- a field that is none is refused before the cursor is looked for
-  pub no_start : refused (codes "f") (ShiftLoop above_loop no_field) lines.UnknownName
+  pub no_start :
+      refused (codes "f") (At above_loop (WithControl ShiftLoop no_field)) lines.UnknownName
   -- an assignment, and a loop round which nothing stands
-  pub no_scope : refused (codes "f") (LiftScope the_body) (lines.Step WrongShape)
-  pub none_round : refused (codes "f") (LiftScope the_loop) (lines.Step WrongShape)
+  pub no_scope : refused (codes "f") (alone_at LiftScope the_body) (lines.Step WrongShape)
+  pub none_round : refused (codes "f") (alone_at LiftScope the_loop) (lines.Step WrongShape)

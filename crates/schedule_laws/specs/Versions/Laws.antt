@@ -1,5 +1,5 @@
 -- What holds of all versions of a schedule.
-use Rattle.std.specs.Prelude.{◌≡◌, ◌≤◌, ◌<◌, ◌+◌, ◌*◌, ◌^◌, ⊤, ℕ, List, length, map}
+use Rattle.std.specs.Prelude.{◌≡◌, ◌≤◌, ◌<◌, ◌+◌, ◌*◌, ◌^◌, ⊤, ℕ, List, length}
 use Rattle.std.specs.Prelude.{true, Some, slice_get, Contains}
 use Rattle.exo_tree.specs.Tree.{Procedure, Program}
 use Rattle.exo_meaning.specs.Run.{program_world}
@@ -13,7 +13,7 @@ use Rattle.unit_check.specs.Faults.{NothingFaults}
 use Rattle.cursor_forward.specs.Cursors.{Cursor}
 use Rattle.step_rules.specs.Lawful.{IsLawful}
 use Rattle.step_rules.specs.Rule.{Target, Got, Spot, Rule}
-use Rattle.schedule_laws.specs.Versions.Versions.{configured, Versions, started}
+use Rattle.schedule_laws.specs.Versions.Versions.{Versions, started}
 use Rattle.schedule_laws.specs.Versions.Places.{parent_at}
 use Rattle.schedule_laws.specs.Versions.Lines.{Ruled, Call, Act, Faulty, Apply, Search, Moved, Emit}
 use Rattle.schedule_laws.specs.Versions.Lines.{Done, run_acts}
@@ -22,11 +22,17 @@ use Rattle.schedule_laws.specs.Versions.Lines.{Done, run_acts}
 abbrev pub NamesFields : Rule → Type 0
 NamesFields r = (s : Spot) → Each (λ f. f < length s.target.unit.fields) (r.fields s)
 
--- what every rule of an operator is
+-- each rule by which an operator works
+abbrev pub EachRule : (Rule → Type 0) → Call → Type 0
+EachRule Holds call =
+    (v : Versions) (t : Target) (cs : List Cursor) (r : Ruled)
+    → call.rule v t cs ≡ Got r
+    → Holds r.rule
+
+-- what they are
 pub record IsLawfulCall (call : Call) : Type 0 where
-  pub lawful : (t : Target) (cs : List Cursor) (r : Ruled) → call.rule t cs ≡ Got r → IsLawful r.rule
-  pub fields :
-      (t : Target) (cs : List Cursor) (r : Ruled) → call.rule t cs ≡ Got r → NamesFields r.rule
+  pub lawful : EachRule IsLawful call
+  pub fields : EachRule NamesFields call
 
 abbrev pub IsLawfulAct : Act → Type 0
 IsLawfulAct (Faulty why) = ⊤
@@ -37,7 +43,7 @@ IsLawfulAct (Emit name) = ⊤
 
 -- the fields of one step, as the report tells them
 abbrev pub fields_of_step : Versions → ℕ → List ℕ
-fields_of_step v k = step_fields v.unit.procedures (map configured v.origins) k
+fields_of_step v k = step_fields v.unit.procedures v.origins k
 
 -- version k was made of version j in one step, whose procedures these are
 pub record IsMade (v : Versions) (j k : ℕ) (p q : Procedure) : Type 0 where
@@ -86,17 +92,17 @@ abbrev pub VersionsRefine : Type 0
 VersionsRefine =
     (v : Versions) (from k : ℕ) (p q : Procedure)
     → AreDerived v
-    → is_descendant (map configured v.origins) k from ≡ true
+    → is_descendant v.origins k from ≡ true
     → slice_get v.unit.procedures from ≡ Some p
     → slice_get v.unit.procedures k ≡ Some q
-    → Refines (program_world v.unit) p q (differing v.unit (map configured v.origins) k from)
+    → Refines (program_world v.unit) p q (differing v.unit v.origins k from)
 
 -- and has the parameters and assertions of each
 abbrev pub VersionsKeepHeads : Type 0
 VersionsKeepHeads =
     (v : Versions) (from k : ℕ) (p q : Procedure)
     → AreDerived v
-    → is_descendant (map configured v.origins) k from ≡ true
+    → is_descendant v.origins k from ≡ true
     → slice_get v.unit.procedures from ≡ Some p
     → slice_get v.unit.procedures k ≡ Some q
     → HasHead p q

@@ -62,9 +62,8 @@ proposed_step v name k (rule.Not cause) = Refused (Step cause)
 proposed_step v name k (rule.Got m) =
     checked_step v name k m (list_fault (with_version v.unit m.proc) m.proc)
 
--- no rule that lines ask for looks at how the procedures of the unit were made
 abbrev pub target : Versions → ℕ → Procedure → Target
-target v k p = record { unit = v.unit; origins = []; number = k; proc = p }
+target v k p = record { unit = v.unit; origins = v.origins; number = k; proc = p }
 
 -- ---- operators
 
@@ -75,11 +74,13 @@ pub record Ruled : Type 0 where
 
 -- an operator with its arguments behind the first
 pub record Call : Type 0 where
+  -- whether its arguments have the forms that the fields that they name ask for
+  pub formed : Versions → Bool
   -- whether the configurations, fields, memories and procedures that it names are there
   pub named : Versions → Bool
   pub cursors : List Asked
   -- by the cursors, in the version that is given
-  pub rule : Target → List Cursor → Tried Ruled
+  pub rule : Versions → Target → List Cursor → Tried Ruled
 
 -- the first that is not there
 abbrev pub all_sought : Versions → ℕ → List Asked → Sought (List Cursor)
@@ -95,7 +96,7 @@ ruled_step v name k p (rule.Got r) =
 abbrev pub found_step :
     Versions → List ℕ → ℕ → Procedure → Call → Sought (List Cursor) → Progress
 found_step v name k p call (Lost why) = Refused (NoPlace why)
-found_step v name k p call (Got cs) = ruled_step v name k p (call.rule (target v k p) cs)
+found_step v name k p call (Got cs) = ruled_step v name k p (call.rule v (target v k p) cs)
 
 abbrev pub called_on : Versions → List ℕ → Call → ℕ → Option Procedure → Progress
 called_on v name call k None = Refused UnknownProc
@@ -149,7 +150,8 @@ pub data Act : Type 0 where
 
 abbrev pub performed : Versions → Act → Progress
 performed v (Faulty why) = Refused why
-performed v (Apply name of call) = called v name call (version_of v of)
+performed v (Apply name of call) =
+    if call.formed v then called v name call (version_of v of) else Refused BadArguments
 performed v (Search name of pattern nth moves) =
     searched v name pattern nth moves (version_of v of)
 performed v (Moved name of moves) =

@@ -1,15 +1,15 @@
 -- Cursors of a schedule: where one is in its own version, and where its statements went from there.
-use Rattle.std.specs.Prelude.{ℕ, zero, suc, ◌==◌, if◌then◌else◌, List, [], ◌∷◌, map}
+use Rattle.std.specs.Prelude.{ℕ, zero, suc, ◌==◌, if◌then◌else◌, List, [], ◌∷◌}
 use Rattle.std.specs.Prelude.{Option, Some, None, slice_get, option_map, option_and_then}
 use Rattle.exo_tree.specs.Tree.{Block, Procedure}
-use Rattle.config_laws.specs.Differing.{from_parent, is_descendant}
+use Rattle.config_laws.specs.Differing.{parent_in, from_parent, is_descendant}
 use Rattle.cursor_patterns.specs.Patterns.{Pattern}
 use Rattle.schedule_calls.specs.Requests.{Move, Parent, Next, Prev, Body, Before, After, Expand}
 use Rattle.schedule_calls.specs.Requests.{Item, Source, Under, Found, Here, Asked}
 use Rattle.cursor_forward.specs.Cursors.{Cursor, parent_of, next_of, prev_of, body_of, item_of}
 use Rattle.cursor_forward.specs.Cursors.{expand_of, before_of, after_of, forward_of}
 use Rattle.cursor_forward.specs.Patterns.{find_of}
-use Rattle.schedule_laws.specs.Versions.Versions.{Origin, Held, Version, At, Versions, configured}
+use Rattle.schedule_laws.specs.Versions.Versions.{Held, Version, At, Versions}
 use Rattle.schedule_laws.specs.Versions.Versions.{version_at, held, version_of}
 
 -- ---- what is found
@@ -56,14 +56,11 @@ module _ (v : Versions) where
 
   -- ---- along a derivation
 
-  abbrev pub origin_at : ℕ → Option Origin
-  origin_at k = slice_get v.origins k
-
   abbrev pub parent_at : ℕ → Option ℕ
-  parent_at k = option_and_then (λ (o : Origin). o.parent) (origin_at k)
+  parent_at k = parent_in v.origins k
 
   abbrev pub stepped : ℕ → Cursor → Option Cursor
-  stepped k c = option_and_then (λ (o : Origin). forward_of o.edits c) (origin_at k)
+  stepped k c = option_and_then (λ edits. forward_of edits c) (slice_get v.edits k)
 
   -- from a version to one made of it in so many steps or fewer
   abbrev pub forwarded : ℕ → ℕ → ℕ → Cursor → Option Cursor
@@ -82,7 +79,7 @@ module _ (v : Versions) where
   -- a version is one of which version k was made, or k itself
   abbrev pub if_before : ℕ → ℕ → Sought Place → Sought Place
   if_before k j place =
-      if is_descendant (map configured v.origins) k j then place else Lost UnknownCursor
+      if is_descendant v.origins k j then place else Lost UnknownCursor
 
   abbrev pub as_place : ℕ → Option Held → Sought Place
   as_place k (Some (At j c)) = if_before k j (Got (record { version = j; cursor = c }))

@@ -3,40 +3,28 @@ use Rattle.std.specs.Prelude.{ℕ, suc, ◌+◌, ◌++◌, List, [], ◌∷◌, 
 use Rattle.std.specs.Prelude.{Option, Some, None, slice_get}
 use Rattle.std.specs.Str.{bytes_eq}
 use Rattle.exo_tree.specs.Tree.{Procedure, Program}
-use Rattle.exo_tree.specs.Places.{Path}
-use Rattle.config_laws.specs.Differing as config
-use Rattle.cursor_forward.specs.Cursors.{Side, Before, Cursor}
+use Rattle.config_laws.specs.FieldRule as config
+use Rattle.config_laws.specs.Differing.{Origin}
+use Rattle.cursor_forward.specs.Cursors.{Cursor}
 use Rattle.cursor_forward.specs.Shifts.{Edits, edits_of}
 use Rattle.cursor_forward.specs.Proposals.{Plan}
 use Rattle.step_rules.specs.Lawful.{config_side}
 use Rattle.tree_laws.specs.Findings.Versions.{with_version}
 
--- how a version was made: of which one, where the statements of that one went, and the point from
--- which these fields may differ
-pub record Origin : Type 0 where
-  pub parent : Option ℕ
-  pub edits : Edits
-  pub place : Path
-  pub side : Side
-  pub fields : List ℕ
-
 -- a procedure of the text was made of none
 abbrev pub of_text : Origin
-of_text = record {
-  parent = None;
-  edits = edits_of [] 0 0 [];
-  place = [];
-  side = Before;
-  fields = [];
-}
+of_text = record { parent = None; place = []; side = config.Before; fields = [] }
 
--- by a step from version k
+-- and nothing went into it
+abbrev pub unmoved : Edits
+unmoved = edits_of [] 0 0 []
+
+-- what a step made of version k: the fields may differ from its point on
 abbrev pub made_of : ℕ → Plan → Origin
 made_of k m = record {
   parent = Some k;
-  edits = m.edits;
   place = m.place;
-  side = m.side;
+  side = config_side m.side;
   fields = m.fields;
 }
 
@@ -45,10 +33,13 @@ pub data Held : Type 0 where
   Version : ℕ → Held
   At : ℕ → Cursor → Held
 
--- the latest binding of a name stands last
+-- The procedures of the unit are the versions. Each has its origin under its number, and where the
+-- statements went by the step that made it. The latest binding of a name stands last. The
+-- obligations are those of the unit, of what steps had to show, and of results.
 pub record Versions : Type 0 where
   pub unit : Program
   pub origins : List Origin
+  pub edits : List Edits
   pub names : List (List ℕ × Held)
   pub emitted : List ℕ
   pub steps : ℕ
@@ -69,6 +60,7 @@ abbrev pub started : Program → ℕ → Versions
 started unit shown = record {
   unit = unit;
   origins = map (λ p. of_text) unit.procedures;
+  edits = map (λ p. unmoved) unit.procedures;
   names = names_from 0 unit.procedures;
   emitted = [];
   steps = 0;
@@ -98,15 +90,7 @@ version_of v name = as_version (held v name)
 abbrev pub bound : List ℕ → Held → Versions → Versions
 bound name what v = record v { names = v.names ++ (name, what) ∷ [] }
 
--- ---- derivations
-
-abbrev pub configured : Origin → config.Origin
-configured o = record {
-  parent = o.parent;
-  place = o.place;
-  side = config_side o.side;
-  fields = o.fields;
-}
+-- ---- steps
 
 -- with what a step from version k made, under this name; so many obligations were shown for it
 abbrev pub with_step : List ℕ → ℕ → Plan → ℕ → Versions → Versions
@@ -115,6 +99,7 @@ with_step name k m shown v =
     (record v {
       unit = with_version v.unit m.proc;
       origins = v.origins ++ made_of k m ∷ [];
+      edits = v.edits ++ m.edits ∷ [];
       steps = suc v.steps;
       obligations = v.obligations + shown;
     })

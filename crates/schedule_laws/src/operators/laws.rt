@@ -1,11 +1,13 @@
 // Laws of the operators of schedules, each the contract of a function with nothing to do.
 
-ghost use Rattle.schedule_laws.specs.Operators.Operators.{OperatorsAreLawful, SchedulesDerive};
-ghost use Rattle.schedule_laws.specs.Operators.Operators.{OperatorsNameNoField, SchedulesDifferInNothing};
+ghost use Rattle.schedule_laws.specs.Operators.Laws.{OperatorsAreLawful, SchedulesDerive};
 ghost use Rattle.schedule_laws.specs.Operators.Instance.{ScheduleInstance, ResultIsDerived};
 ghost use Rattle.schedule_laws.specs.Operators.LoopInstance.{LoopsInstance};
 ghost use Rattle.schedule_laws.specs.Operators.OrderInstance.{OrderInstance};
 ghost use Rattle.schedule_laws.specs.Operators.ScopeInstance.{ScopesInstance};
+ghost use Rattle.schedule_laws.specs.Operators.BufferInstance.{BuffersInstance};
+ghost use Rattle.schedule_laws.specs.Operators.StageInstance.{StageInstance};
+ghost use Rattle.schedule_laws.specs.Operators.CallInstance.{CallsInstance};
 
 /// Every operator works by lawful rules.
 pub fn operators_are_lawful()
@@ -29,6 +31,20 @@ pub fn operators_are_lawful()
     proc_laws::expression::laws::exchanges_are_lawful();
     proc_laws::expression::laws::names_are_lawful();
     proc_laws::expression::laws::deleted_passes_are_lawful();
+    alloc_laws::laws::memories_are_lawful();
+    alloc_laws::laws::deletions_are_lawful();
+    alloc_laws::laws::lifted_allocations_are_lawful();
+    alloc_laws::laws::expansions_are_lawful();
+    alloc_laws::bind::laws::bindings_are_lawful();
+    alloc_laws::stage::laws::stagings_are_lawful();
+    call_laws::laws::inlined_windows_are_lawful();
+    call_laws::laws::inlined_calls_are_lawful();
+    unify_laws::laws::simplifications_are_lawful();
+    field_laws::laws::writes_are_lawful();
+    field_laws::laws::deletions_are_lawful();
+    field_laws::laws::bindings_are_lawful();
+    field_laws::laws::versions_are_lawful();
+    field_laws::laws::told_fields_are_there();
 }
 
 /// What a schedule makes of a well-formed unit of which nothing faults is derived.
@@ -60,22 +76,25 @@ pub fn scopes_instance()
     ensures { ScopesInstance }
 {}
 
+/// A schedule that changes a buffer, and refusals of such ones.
+pub fn buffers_instance()
+    ensures { BuffersInstance }
+{}
+
+/// A schedule that puts blocks on buffers of their own, and refusals of such ones.
+pub fn stage_instance()
+    ensures { StageInstance }
+{}
+
+/// A schedule that changes calls and writes a field, and refusals of such ones.
+pub fn calls_instance()
+    ensures { CallsInstance }
+{}
+
 /// What the schedule of the instance leaves is derived.
 pub fn result_is_derived()
     ensures { ResultIsDerived }
 {
     schedules_derive();
     unit_check::laws::checked_units_do_not_fault();
-}
-
-/// No operator that is built names a field that may differ.
-pub fn operators_name_no_field()
-    ensures { OperatorsNameNoField }
-{}
-
-/// No version of a schedule differs in a field from one of which it was made.
-pub fn schedules_differ_in_nothing()
-    ensures { SchedulesDifferInNothing }
-{
-    crate::versions::laws::runs_differ_in_nothing();
 }

@@ -38,7 +38,7 @@ use Rattle.unify_laws.specs.Replace.BlockIds.{param_ids, TakesBlockIds, BlockIds
 
 -- of each two, one of them
 module _ (side : ℕ → ℕ → ℕ) where
-  abbrev ids : List Pair → List ℕ
+  abbrev pub ids : List Pair → List ℕ
   ids [] = []
   ids (Numbers p whole e g ∷ pairs) = ids pairs
   ids (Truths p whole c d ∷ pairs) = ids pairs
@@ -262,7 +262,7 @@ module _ (P : Pair → Type 0) (no : (p : Path) → P (Unlike p) → ⊥) (left 
 
 module _ (at : Reading) (theirs : Names) (block : Block) (q : Procedure) (args : List Argument)
     (e : matched at theirs block q ≡ Arguments args) where
-  pairs_are : (left : Bool)
+  pub pairs_are : (left : Bool)
       → ids (λ x y. if left then x else y) (all_pairs at theirs block q)
       ≡ (if left then binders q.body else binders block)
   pairs_are left =
@@ -308,7 +308,7 @@ mapped f (x ∷ xs) ys = ap (λ zs. f x ∷ zs) (mapped f xs ys)
 
 module _ (f : ℕ → ℕ) where
   mutual
-    binders_re : (b : Block) → binders (re_block f b) ≡ map f (binders b)
+    pub binders_re : (b : Block) → binders (re_block f b) ≡ map f (binders b)
     binders_re end = refl
     binders_re (next a b) =
         ap₂ ◌++◌ (below_re a) (binders_re b) ∙ sym (mapped f (binders_below a) (binders b))

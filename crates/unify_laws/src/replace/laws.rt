@@ -1,8 +1,11 @@
 // Laws of the rewrite replace, each the contract of a function with nothing to do.
 
+ghost use Rattle.std.specs.Prelude.{ℕ};
 ghost use Rattle.unify_laws.specs.Replace.BlockIds.{BlockIds, PieceIds};
 ghost use Rattle.unify_laws.specs.Replace.MatchedKinds.{KindsMatch};
 ghost use Rattle.unify_laws.specs.Replace.ComesAlike.{ComesAlike, ComesAsBefore};
+ghost use Rattle.unify_laws.specs.Replace.Rule.{replace_rule};
+ghost use Rattle.step_rules.specs.Lawful.{IsLawful, IsCarrying};
 
 /// A callee that a block matches can have the ids of the block's binders, and new ids for its
 /// parameters.
@@ -28,4 +31,15 @@ pub fn runs_come_as_before()
 /// A match gives buffers for buffers, and numbers and conditions for control parameters.
 pub fn matches_give_arguments_of_kinds()
     ensures { KindsMatch }
+{}
+
+/// The rule that puts a call of procedure k in the place of n statements that are matched with its
+/// body is lawful.
+pub fn replacements_are_lawful()
+    ensures { (k n : ℕ) → IsLawful (replace_rule k n) }
+{}
+
+/// It takes the statements away.
+pub fn replacements_carry()
+    ensures { (k n : ℕ) → IsCarrying (replace_rule k n) }
 {}

@@ -15,24 +15,24 @@ pub conflicts-requires-clause-context : goal.conflicts-requires-clause-context
 conflicts-requires-clause-context c =
     let s = c.args.standing.now in
     let u = unit_at s in
-    c.contexts_are_low.ensures (field_kind u.fields) (length u.memories) (slice_get c.requires.0) u (proc_at s)
-    s.path.now c.requires.1
+    c.contexts_are_low.ensures (field_kind u.fields) (length u.memories) (slice_get c.requires.formed.0) u (proc_at s)
+    s.path.now c.requires.formed.1
 
 pub conflicts-requires-clause-first : goal.conflicts-requires-clause-first
 conflicts-requires-clause-first c =
     let s = c.args.standing.now in
     let u = unit_at s in
     ap (list_all access_is_low) c.deref.ensures.value
-    ∙ c.arguments_are_low.ensures (field_kind u.fields) (length u.memories) (slice_get c.requires.0) u (proc_at s)
-    s.path.now c.args.j c.in_ok-first.first.items c.requires.1 c.in_ok-first.ensures
+    ∙ c.arguments_are_low.ensures (field_kind u.fields) (length u.memories) (slice_get c.requires.formed.0) u (proc_at s)
+    s.path.now c.args.j c.in_ok-first.first.items c.requires.formed.1 c.in_ok-first.ensures
 
 pub conflicts-requires-clause-second : goal.conflicts-requires-clause-second
 conflicts-requires-clause-second c =
     let s = c.args.standing.now in
     let u = unit_at s in
     ap (list_all access_is_low) c.deref-2.ensures.value
-    ∙ c.arguments_are_low.ensures (field_kind u.fields) (length u.memories) (slice_get c.requires.0) u (proc_at s)
-    s.path.now c.args.k c.in_ok-second.second.items c.requires.1 c.in_ok-second.ensures
+    ∙ c.arguments_are_low.ensures (field_kind u.fields) (length u.memories) (slice_get c.requires.formed.0) u (proc_at s)
+    s.path.now c.args.k c.in_ok-second.second.items c.requires.formed.1 c.in_ok-second.ensures
 
 pub returns-in_err-owed : goal.returns-in_err-owed
 returns-in_err-owed c =
@@ -43,8 +43,8 @@ returns-in_err-owed c =
     let second = ap plain_uses c.deref-2.ensures.value ∙ c.in_ok-second.ensures in
     refused (unit_at s) (proc_at s) s.path.now (Apart c.args.j c.args.k) old c.from_residual-in_err-owed.result old
     (error_of e) c.from_residual-in_err-owed.ensures.1
-    (refused_pair (unit_at s) (proc_at s) s.path.now c.args.j c.args.k s.fits old e
-    (answered (unit_at s) (proc_at s) s.path.now c.args.j c.args.k s.fits {A = Unit {0}} (Err e)
+    (refused_pair (unit_at s) (proc_at s) s.path.now c.args.j c.args.k c.requires.fits old e
+    (answered (unit_at s) (proc_at s) s.path.now c.args.j c.args.k c.requires.fits {A = Unit {0}} (Err e)
     (plain_uses c.deref.result.now) (plain_uses c.deref-2.result.now) first second c.in_err-owed.ensures))
 
 pub returns-in_err-push_all : goal.returns-in_err-push_all
@@ -58,8 +58,8 @@ returns-in_err-push_all c =
     refused (unit_at s) (proc_at s) s.path.now (Apart c.args.j c.args.k) old c.from_residual-in_err-push_all.result
     c.push_all.new.self (error_of e) c.from_residual-in_err-push_all.ensures.1
     (too_many (unit_at s) (proc_at s) s.path.now (Apart c.args.j c.args.k) old (map plain_obligation os.items)
-    (pair_owes (unit_at s) (proc_at s) s.path.now c.args.j c.args.k s.fits os
-    (answered (unit_at s) (proc_at s) s.path.now c.args.j c.args.k s.fits (Ok os)
+    (pair_owes (unit_at s) (proc_at s) s.path.now c.args.j c.args.k c.requires.fits os
+    (answered (unit_at s) (proc_at s) s.path.now c.args.j c.args.k c.requires.fits (Ok os)
     (plain_uses c.deref.result.now) (plain_uses c.deref-2.result.now) first second c.in_ok-owed.ensures))
     e c.push_all.new.self c.in_err-push_all.ensures)
 
@@ -71,7 +71,7 @@ returns c =
     let first = ap plain_uses c.deref.ensures.value ∙ c.in_ok-first.ensures in
     let second = ap plain_uses c.deref-2.ensures.value ∙ c.in_ok-second.ensures in
     owes_all (unit_at s) (proc_at s) s.path.now (Apart c.args.j c.args.k) old (map plain_obligation os.items)
-    (pair_owes (unit_at s) (proc_at s) s.path.now c.args.j c.args.k s.fits os
-    (answered (unit_at s) (proc_at s) s.path.now c.args.j c.args.k s.fits (Ok os)
+    (pair_owes (unit_at s) (proc_at s) s.path.now c.args.j c.args.k c.requires.fits os
+    (answered (unit_at s) (proc_at s) s.path.now c.args.j c.args.k c.requires.fits (Ok os)
     (plain_uses c.deref.result.now) (plain_uses c.deref-2.result.now) first second c.in_ok-owed.ensures))
     c.push_all.new.self c.in_ok-push_all.ensures

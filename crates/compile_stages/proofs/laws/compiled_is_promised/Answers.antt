@@ -9,7 +9,6 @@ returns c =
       safe = c.checked_units_do_not_fault.ensures;
       keeps = c.schedules_keep.ensures;
       room = c.small_units_have_room.ensures;
-      bare = c.schedules_differ_in_nothing.ensures;
       hold = c.runs_hold_versions.ensures;
     })
     (record { follow = c.files_follow.ensures; done = c.files_without_allocations_are_done.ensures })

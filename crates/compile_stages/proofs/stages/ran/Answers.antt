@@ -6,16 +6,11 @@ use Rattle.schedule_laws.specs.Versions.Versions.{Versions, started}
 use Rattle.schedule_run.specs.PlainVersions.{versions}
 use Rattle.compile_stages.specs.Stages.{Stage, Stopped, Schedule, IsRan}
 use Rattle.compile_stages.specs.Stopping.{plain}
-use Rattle.compile_stages.proofs.Lines.{runs_leave_fields, refused_stage}
+use Rattle.compile_stages.proofs.Lines.{refused_stage}
 use Rattle.compile_stages.proofs.stages.ran.Goals as goal
 
-pub returns-in-Ok-clause-fields : goal.returns-in-Ok-clause-fields
-returns-in-Ok-clause-fields g c =
-    runs_leave_fields c.schedules_differ_in_nothing.ensures (program c.args.unit) c.args.count
-    (map plain_line c.as_slice-lines.result.now) (versions c.in-Ok.session) c.in-Ok.ensures.exact
-
-pub returns-in_ok-refused_at-in-Err-clause-stage : goal.returns-in_ok-refused_at-in-Err-clause-stage
-returns-in_ok-refused_at-in-Err-clause-stage g c =
+pub returns-in_ok-refused_at-in-Err : goal.returns-in_ok-refused_at-in-Err
+returns-in_ok-refused_at-in-Err g c =
     let of : List Line → Schedule = λ ls. record { lines = map plain_line ls; numbers = map number ls } in
     subst (λ (ls : List Line). IfSome (option_map Stopped (plain c.in_ok-refused_at-in-Err.field-0))
     (IsRan (program c.args.unit) c.args.count (of ls))) c.as_slice-lines.ensures.value

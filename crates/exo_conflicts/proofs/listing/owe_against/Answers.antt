@@ -2,16 +2,14 @@ use Rattle.std.proofs.Common.{◌+◌, [], ◌∷◌, map, drop, ap, ◌∙◌}
 use Rattle.exo_modes.proofs.Arguments.{drop_read}
 use Rattle.exo_effects.specs.Accesses.{access_of}
 use Rattle.exo_effects.specs.PlainUses.{plain_use, plain_uses}
-use Rattle.exo_conflicts.specs.Outcomes.{order_fits, clashing_with}
+use Rattle.exo_conflicts.specs.Outcomes.{clashing_with}
 use Rattle.exo_conflicts.specs.PlainCopies.{plain_order}
-use Rattle.exo_conflicts.proofs.Answered.{fit_at, gone_wrong, left_owes, one_more}
+use Rattle.exo_conflicts.proofs.Answered.{gone_wrong, left_owes, one_more}
 use Rattle.exo_conflicts.proofs.listing.owe_against.Goals as goal
-
-pub owe_clash-requires-clause-fits : goal.owe_clash-requires-clause-fits
-owe_clash-requires-clause-fits g c = fit_at (order_fits c.args.order.now) (plain_use c.args.x.now) c.args.others.now c.loop-y.y-index c.y-item.result c.y-item.is c.loop-y-test.true c.requires.fits
 
 pub returns-in_err-owe_clash : goal.returns-in_err-owe_clash
 returns-in_err-owe_clash g c =
+    let fits = g.C.Contexts.fits c.args.contexts.now in
     let ctx = g.C.Contexts.known c.args.contexts.now in
     let order = plain_order c.args.order.now in
     let place = c.args.place.now in
@@ -23,5 +21,5 @@ returns-in_err-owe_clash g c =
     let left = clashing_with x (map access_of (plain_uses (drop k all))) in
     let more = map access_of (plain_uses (drop (k + 1) all)) in
     let next = ap (λ zs. clashing_with x (map access_of (plain_uses zs))) (drop_read all k c.y-item.result c.y-item.is c.loop-y-test.true) ∙ one_more x y more in
-    left_owes ctx order place c.from_residual.result c.in_err-owe_clash.field-0.0 pairs c.args.out.now c.owe_clash.new.out c.from_residual.ensures.1
-    (gone_wrong ctx order place c.in_err-owe_clash.field-0.0 c.args.out.now c.loop-y.out pairs left (clashing_with x (y ∷ [])) (clashing_with x more) c.loop-y.invariant next c.in_err-owe_clash.ensures)
+    left_owes fits ctx order place c.from_residual.result c.in_err-owe_clash.field-0.0 pairs c.args.out.now c.owe_clash.new.out c.from_residual.ensures.1
+    (gone_wrong fits ctx order place c.in_err-owe_clash.field-0.0 c.args.out.now c.loop-y.out pairs left (clashing_with x (y ∷ [])) (clashing_with x more) c.loop-y.invariant next c.in_err-owe_clash.ensures)

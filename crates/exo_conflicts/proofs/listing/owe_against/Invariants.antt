@@ -9,5 +9,5 @@ use Rattle.exo_conflicts.proofs.listing.owe_against.Given as goal
 abbrev pub invariant-loop-y : goal.invariant-loop-y
 invariant-loop-y g l =
     (rest : List (Access × Access))
-    → owed_behind (g.C.Contexts.known l.contexts) (plain_order l.order) l.place (2 ^ 31) l.initial.out (clashing_with (access_of (plain_use l.x)) (map access_of (plain_uses l.others)) ++ rest)
-    ≡ owed_behind (g.C.Contexts.known l.contexts) (plain_order l.order) l.place (2 ^ 31) l.out (clashing_with (access_of (plain_use l.x)) (map access_of (plain_uses (drop l.y-index l.others))) ++ rest)
+    → owed_behind (g.C.Contexts.fits l.contexts) (g.C.Contexts.known l.contexts) (plain_order l.order) l.place (2 ^ 31) l.initial.out (clashing_with (access_of (plain_use l.x)) (map access_of (plain_uses l.others)) ++ rest)
+    ≡ owed_behind (g.C.Contexts.fits l.contexts) (g.C.Contexts.known l.contexts) (plain_order l.order) l.place (2 ^ 31) l.out (clashing_with (access_of (plain_use l.x)) (map access_of (plain_uses (drop l.y-index l.others))) ++ rest)

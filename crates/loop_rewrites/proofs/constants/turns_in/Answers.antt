@@ -3,7 +3,7 @@ use Rattle.std.specs.Prelude.{ℤ, List}
 use Rattle.step_rules.specs.Rule.{Tried}
 use Rattle.step_driver.specs.Outcomes.{Tries}
 use Rattle.loop_laws.specs.UnrollLoop.{bound_fits, turns_of}
-use Rattle.loop_rewrites.specs.Shapes.PlainLoop.{plain_loop}
+use Rattle.step_targets.specs.PlainLoop.{plain_loop}
 use Rattle.loop_rewrites.specs.PlainTurns.{plain_turns, with_turns}
 use Rattle.loop_rewrites.proofs.Bounds.{refused_wide, wide_lower, wide_upper, turns_are}
 use Rattle.loop_rewrites.proofs.constants.turns_in.Goals as goal

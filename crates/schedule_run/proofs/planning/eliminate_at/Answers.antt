@@ -5,7 +5,8 @@ use Rattle.exo_tree.specs.PlainProcedure.{procedure}
 use Rattle.exo_tree.specs.declared.place.Branch.{Branch}
 use Rattle.cursor_forward.specs.PlainProposal.{plain_proposal}
 use Rattle.schedule_calls.specs.PlainRequest.{plain_asked}
-use Rattle.schedule_laws.specs.Operators.Operators.{dead_code_rule, statement_call}
+use Rattle.schedule_laws.specs.Operators.Calls.{statement_call}
+use Rattle.schedule_laws.specs.Operators.Operators.{dead_code_rule}
 use Rattle.schedule_run.specs.Outcomes.{Makes}
 use Rattle.schedule_run.specs.Planned.{planned}
 use Rattle.schedule_run.specs.PlainVersions.{versions}

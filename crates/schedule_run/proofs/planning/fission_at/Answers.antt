@@ -1,20 +1,20 @@
-use Rattle.std.proofs.Common.{◌≡◌, true, refl, sym, ap, subst, ap₂, List}
+use Rattle.std.proofs.Common.{◌≡◌, true, refl, sym, subst, List, ap₂}
 use Rattle.exo_tree.specs.Tree.{Program}
 use Rattle.exo_tree.specs.PlainProcedure.{procedure}
 use Rattle.config_laws.specs.Differing.{Origin}
 use Rattle.cursor_forward.specs.PlainProposal.{plain_proposal}
-use Rattle.cursor_forward.specs.Proposals.{Plan}
 use Rattle.step_driver.specs.PlainTarget.{target}
+use Rattle.loop_laws.specs.Nest.Fission.{fission_rule}
 use Rattle.schedule_calls.specs.PlainRequest.{plain_asked}
 use Rattle.schedule_laws.specs.Versions.Lines as lines
-use Rattle.loop_laws.specs.Nest.Fission.{fission_rule}
+use Rattle.schedule_laws.specs.Operators.Places.{gap_in}
+use Rattle.schedule_laws.specs.Operators.Calls.{gap_call}
 use Rattle.schedule_run.specs.PlainPlace.{plain_gap}
 use Rattle.schedule_run.specs.Outcomes.{Makes}
-use Rattle.schedule_run.specs.Planned.{Made, planned}
+use Rattle.schedule_run.specs.Planned.{planned}
 use Rattle.schedule_run.specs.PlainVersions.{versions}
-use Rattle.schedule_laws.specs.Operators.Operators.{gap_call}
 use Rattle.schedule_run.proofs.Going.{made_failed}
-use Rattle.schedule_run.proofs.Asking.{gap_lost, gap_there}
+use Rattle.schedule_run.proofs.Asking.{asked_lost, asked_there}
 use Rattle.schedule_run.proofs.planning.fission_at.Goals as goal
 
 pub returns : goal.returns
@@ -25,10 +25,11 @@ returns c =
     let same : target c.args.on.now ≡ lines.target v k p =
     ap₂ (λ (u : Program) (os : List Origin). record { unit = u; origins = os; number = k; proc = p })
     c.requires.unit c.requires.origins in
-    subst (λ (m : Made Plan). Makes plain_proposal m c.proposed.result)
+    subst (λ m. Makes plain_proposal m c.proposed.result)
     (sym
-    (gap_there v k p (target c.args.on.now) same (λ fs. true) (plain_asked c.args.at.now)
-    fission_rule refl (plain_gap c.in_ok-gap.gap) c.in_ok-gap.ensures))
+    (asked_there v k p (λ v. true) (plain_asked c.args.at.now) gap_in
+    (λ v t g. record { rule = fission_rule g.before; at = g.around })
+    (target c.args.on.now) same refl (plain_gap c.in_ok-gap.gap) c.in_ok-gap.ensures))
     c.proposed.ensures
 
 pub returns-in_err-gap : goal.returns-in_err-gap
@@ -36,11 +37,8 @@ returns-in_err-gap c =
     let v = versions c.args.s.now in
     let k = c.args.on.now.number.0 in
     let p = procedure c.args.on.now.proc.now in
-    let same : target c.args.on.now ≡ lines.target v k p =
-    ap₂ (λ (u : Program) (os : List Origin). record { unit = u; origins = os; number = k; proc = p })
-    c.requires.unit c.requires.origins in
     let e = c.in_err-gap.field-0.0 in
     made_failed plain_proposal (planned v k p (gap_call (plain_asked c.args.at.now) fission_rule))
     c.from_residual.result e c.from_residual.ensures.1
-    (gap_lost v k p (target c.args.on.now) same (λ fs. true) (plain_asked c.args.at.now)
-    fission_rule refl e c.in_err-gap.ensures)
+    (asked_lost v k p (λ v. true) (plain_asked c.args.at.now) gap_in
+    (λ v t g. record { rule = fission_rule g.before; at = g.around }) refl e c.in_err-gap.ensures)

@@ -1,6 +1,6 @@
 use Rattle.std.proofs.Common.{◌∙◌}
 use Rattle.step_driver.specs.PlainTarget.{target, plain_piece}
-use Rattle.loop_rewrites.specs.Shapes.PlainLoop.{plain_loop}
+use Rattle.step_targets.specs.PlainLoop.{plain_loop}
 use Rattle.statement_rewrites.proofs.Neighbouring.{first_holds, second_counts}
 use Rattle.statement_rewrites.proofs.OwnSeen.{own_seen}
 use Rattle.statement_rewrites.proofs.alike.sees_own.Goals as goal

@@ -1,20 +1,20 @@
-use Rattle.std.proofs.Common.{◌&&◌, List, length, map, ap, ap₂, ◌∙◌}
+use Rattle.std.proofs.Common.{List, length, map, ap, ap₂, ◌∙◌, subst}
 use Rattle.std.specs.List.{list_all}
 use Rattle.exo_tree.specs.PlainProcedure.{procedure}
 use Rattle.exo_tree.specs.PlainUnit.{program}
 use Rattle.exo_meaning.specs.Run.{program_world}
 use Rattle.exo_meaning.specs.Units.{field_kind}
-use Rattle.check_facts.specs.Contexts.{context_of}
-use Rattle.exo_effects.specs.Accesses.{access_of, use_fits}
+use Rattle.check_facts.specs.Contexts.{context_of, context_fits}
+use Rattle.exo_effects.specs.Accesses.{access_of}
 use Rattle.exo_effects.specs.Conflicts.{conflicts_of}
 use Rattle.exo_effects.specs.PlainUses.{plain_uses}
 use Rattle.exo_effects.specs.Uses.{Use}
-use Rattle.exo_conflicts.specs.Outcomes.{access_is_low, order_fits}
+use Rattle.exo_conflicts.specs.Outcomes.{access_is_low, IsListed}
 use Rattle.exo_conflicts.specs.PlainCopies.{plain_order}
-use Rattle.step_needs.specs.Conflicts.{pieces_fit, listing_at}
+use Rattle.step_needs.specs.Conflicts.{listing_at}
 use Rattle.step_needs.specs.Owing.{target_in}
 use Rattle.step_needs.specs.PlainNeed.{plain_conflict}
-use Rattle.step_needs.proofs.OneConflict.{unlisted, conflicting_where}
+use Rattle.step_needs.proofs.OneConflict.{unlisted}
 use Rattle.step_needs.proofs.apart.listed.Goals as goal
 
 pub conflicts-requires-clause-context : goal.conflicts-requires-clause-context
@@ -44,33 +44,24 @@ conflicts-requires-clause-second c =
 pub returns-in_err-first : goal.returns-in_err-first
 returns-in_err-first c n =
     let t = target_in (program c.args.at.now.unit.now, procedure c.args.at.now.proc.now) n in
-    let k = plain_conflict c.args.k.now in
-    let order = c.args.order.now in
-    unlisted c.from_residual.result (order_fits order && pieces_fit t k)
-    (listing_at t k c.args.at.now.path.now (plain_order order) c.args.path.now) c.from_residual.ensures.1
+    unlisted c.from_residual.result
+    (listing_at t (plain_conflict c.args.k.now) c.args.at.now.path.now (plain_order c.args.order.now) c.args.path.now)
+    c.from_residual.ensures.1
 
 pub returns-in_err-second : goal.returns-in_err-second
 returns-in_err-second c n =
     let t = target_in (program c.args.at.now.unit.now, procedure c.args.at.now.proc.now) n in
-    let k = plain_conflict c.args.k.now in
-    let order = c.args.order.now in
-    unlisted c.from_residual-in_err-second.result (order_fits order && pieces_fit t k)
-    (listing_at t k c.args.at.now.path.now (plain_order order) c.args.path.now) c.from_residual-in_err-second.ensures.1
+    unlisted c.from_residual-in_err-second.result
+    (listing_at t (plain_conflict c.args.k.now) c.args.at.now.path.now (plain_order c.args.order.now) c.args.path.now)
+    c.from_residual-in_err-second.ensures.1
 
 pub returns : goal.returns
 returns c n =
     let t = target_in (program c.args.at.now.unit.now, procedure c.args.at.now.proc.now) n in
-    let k = plain_conflict c.args.k.now in
-    let order = c.args.order.now in
     let place = c.args.at.now.path.now in
-    let fits : List Use → List Use → _ = λ us vs. order_fits order && (list_all use_fits us && list_all use_fits vs) in
     let list : List Use → List Use → _ =
-    λ us vs. conflicts_of (context_of t.unit t.proc place) (plain_order order) c.args.path.now (map access_of us) (map access_of vs) in
-    let us = plain_uses c.deref.result.now in
-    let vs = plain_uses c.deref-2.result.now in
+    λ us vs. conflicts_of (context_fits t.unit t.proc place) (context_of t.unit t.proc place)
+    (plain_order c.args.order.now) c.args.path.now (map access_of us) (map access_of vs) in
     let first = ap plain_uses c.deref.ensures.value ∙ c.in_ok-first.ensures in
     let second = ap plain_uses c.deref-2.ensures.value ∙ c.in_ok-second.ensures in
-    conflicting_where c.conflicts.result (fits us vs) (order_fits order && pieces_fit t k) (list us vs)
-    (listing_at t k place (plain_order order) c.args.path.now)
-    (ap₂ fits first second) (ap₂ list first second)
-    c.conflicts.ensures
+    subst (IsListed c.conflicts.result) (ap₂ list first second) c.conflicts.ensures

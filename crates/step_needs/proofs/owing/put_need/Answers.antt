@@ -8,5 +8,5 @@ returns-in-Says-clause-puts c k = c.put_fact.ensures.puts k (plain_need c.args.n
 
 pub returns-in-Apart-clause-puts : goal.returns-in-Apart-clause-puts
 returns-in-Apart-clause-puts c k =
-    c.put_apart.ensures.puts k (plain_need c.args.need.now)
+    c.put_apart.ensures k (plain_need c.args.need.now)
     (ap plain_need c.in-Apart.is ∙ ap (λ q. rule.Apart c.in-Apart.path (plain_conflict q)) (sym c.deref.ensures))

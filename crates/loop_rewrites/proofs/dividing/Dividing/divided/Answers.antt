@@ -3,7 +3,7 @@ use Rattle.exo_tree.specs.Tree.{Statement, Lit, Mod, Gt, Block, end, block, join
 use Rattle.exo_tree.specs.Renaming.{fresh}
 use Rattle.place_laws.specs.Scope.BranchesAtPlaces.{only_branch}
 use Rattle.loop_laws.specs.DivideLoop.{whole_groups, turns_behind, divided_with, divided}
-use Rattle.loop_rewrites.specs.Shapes.PlainLoop.{plain_loop}
+use Rattle.step_targets.specs.PlainLoop.{plain_loop}
 use Rattle.loop_rewrites.specs.PlainTail.{division, plain_tail}
 use Rattle.loop_rewrites.specs.declared.dividing.Tail.{Tail}
 use Rattle.loop_rewrites.proofs.dividing.Dividing.divided.Goals as goal

@@ -4,7 +4,7 @@ use Rattle.exo_tree.specs.PlainControl.{control}
 use Rattle.exo_tree.specs.Tree.{Lt, end}
 use Rattle.place_laws.specs.Scope.BranchesAtPlaces.{only_branch}
 use Rattle.loop_laws.specs.DivideLoop.{nest, turn_in_group, body_in_group}
-use Rattle.loop_rewrites.specs.Shapes.PlainLoop.{plain_loop}
+use Rattle.step_targets.specs.PlainLoop.{plain_loop}
 use Rattle.loop_rewrites.specs.PlainTail.{division}
 use Rattle.loop_rewrites.proofs.dividing.Dividing.guarded_groups.Goals as goal
 

@@ -1,7 +1,7 @@
 use Rattle.std.proofs.Common.{◌≡◌, pos, List, IfOk, subst}
 use Rattle.exo_tree.specs.Tree.{Statement, Control, Lit, Mod, Gt, Block, end, block}
 use Rattle.place_laws.specs.Scope.BranchesAtPlaces.{only_branch}
-use Rattle.loop_rewrites.specs.Shapes.PlainLoop.{plain_loop}
+use Rattle.step_targets.specs.PlainLoop.{plain_loop}
 use Rattle.loop_rewrites.proofs.dividing.Dividing.guarded_tail.Goals as goal
 
 pub returns : goal.returns

@@ -3,7 +3,7 @@ use Rattle.exo_tree.specs.Tree.{Statement, Control, Lit, Var, Add, Mul, Block, b
 use Rattle.exo_tree.specs.Substitution.{in_block}
 use Rattle.exo_tree.specs.PlainControl.{control}
 use Rattle.loop_laws.specs.DivideLoop.{nest, body_in_group}
-use Rattle.loop_rewrites.specs.Shapes.PlainLoop.{plain_loop}
+use Rattle.step_targets.specs.PlainLoop.{plain_loop}
 use Rattle.loop_rewrites.specs.PlainTail.{division}
 use Rattle.loop_rewrites.proofs.dividing.Dividing.whole_groups.Goals as goal
 

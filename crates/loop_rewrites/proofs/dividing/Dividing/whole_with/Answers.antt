@@ -1,5 +1,5 @@
 use Rattle.std.proofs.Common.{refl}
-use Rattle.loop_rewrites.proofs.OfShapes.Made.{appended}
+use Rattle.step_targets.proofs.Made.{appended}
 use Rattle.loop_rewrites.proofs.dividing.Dividing.whole_with.Goals as goal
 
 pub returns : goal.returns

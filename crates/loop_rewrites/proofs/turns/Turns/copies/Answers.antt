@@ -3,7 +3,7 @@ use Rattle.std.proofs.lemmas.Int.{to_z-of_z}
 use Rattle.std.specs.Int.{w64}
 use Rattle.std.specs.Int.RustNames.{FitsSigned}
 use Rattle.match_laws.specs.Simplify.Simplified.{literal}
-use Rattle.loop_rewrites.specs.Shapes.PlainLoop.{plain_loop}
+use Rattle.step_targets.specs.PlainLoop.{plain_loop}
 use Rattle.loop_rewrites.proofs.Written.{AreWritten, begin, go_on, finish}
 use Rattle.loop_rewrites.proofs.turns.Turns.copies.Goals as goal
 

@@ -1,6 +1,6 @@
 -- What is made, and the copies of the turns that are left, are the copies of all.
 use Rattle.match_laws.specs.Simplify.Simplified.{literal}
-use Rattle.loop_rewrites.specs.Shapes.PlainLoop.{plain_loop}
+use Rattle.step_targets.specs.PlainLoop.{plain_loop}
 use Rattle.loop_rewrites.proofs.Written.{AreWritten}
 use Rattle.loop_rewrites.proofs.turns.Turns.copies.Given as goal
 

@@ -20,4 +20,5 @@ returns c =
       kept = c.proposals_are_kept.ensures;
       meaning = c.lawful_rules_keep_meaning.ensures;
       refines = grown_refines;
+      descend = c.descendants_refine.ensures;
     })

@@ -5,6 +5,7 @@ use Rattle.exo_tree.specs.PlainUnit.{program}
 use Rattle.affine_systems.specs.Outcomes.{plain_obligation}
 use Rattle.bounds_check.specs.Obligations.{list_fault}
 use Rattle.cursor_forward.specs.PlainProposal.{plain_proposal}
+use Rattle.config_laws.specs.Differing.{Origin}
 use Rattle.tree_laws.specs.Findings.Versions.{with_version}
 use Rattle.schedule_laws.specs.Versions.Versions.{Versions, Version, bound, made_of}
 use Rattle.schedule_laws.specs.Versions.Lines.{Went, checked_step}
@@ -55,14 +56,23 @@ returns-clause-performs g c =
     ∙ ap Went
     (sym
     (c.in_ok-add.ensures.added
+    ∙ ap (λ (o : Origin). bound name (Version c.in_ok-number.number.0)
+    (record (versions_in c.push.new.self) {
+      origins = (versions_in c.push.new.self).origins ++ o ∷ [];
+      edits = (versions_in c.push.new.self).edits ++ m.edits ∷ [];
+      steps = suc (versions_in c.push.new.self).steps;
+      obligations = (versions_in c.push.new.self).obligations + n;
+    })) c.in_ok-origin.ensures
     ∙ ap (λ (x : Versions). bound name (Version c.in_ok-number.number.0) (record x {
       origins = x.origins ++ made_of k m ∷ [];
+      edits = x.edits ++ m.edits ∷ [];
       steps = suc x.steps;
       obligations = x.obligations + n;
     })) c.in_ok-number.ensures.pushed
     ∙ ap (λ j. bound name (Version j) (record v {
       unit = with_version v.unit m.proc;
       origins = v.origins ++ made_of k m ∷ [];
+      edits = v.edits ++ m.edits ∷ [];
       steps = suc v.steps;
       obligations = v.obligations + n;
     })) c.in_ok-number.ensures.number))

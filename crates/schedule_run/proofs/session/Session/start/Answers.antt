@@ -1,10 +1,11 @@
 use Rattle.std.proofs.Common.{◌≡◌, ◌≤◌, ◌+◌, map, take, length, ap, sym, ◌∙◌, arith}
 use Rattle.std.proofs.lemmas.List.{map-append, length_push}
 use Rattle.exo_tree.specs.PlainProcedure.{procedure}
-use Rattle.schedule_laws.specs.Versions.Versions.{of_text, names_from}
-use Rattle.schedule_run.specs.PlainVersions.{origin, binding}
+use Rattle.schedule_laws.specs.Versions.Versions.{of_text, unmoved, names_from}
+use Rattle.config_live.specs.Origins.{origin}
+use Rattle.schedule_run.specs.PlainVersions.{binding}
 use Rattle.schedule_run.proofs.Lists.{taken_mapped, long}
-use Rattle.schedule_run.proofs.Names.{names_more, texts_more}
+use Rattle.schedule_run.proofs.Names.{names_more, same_more}
 use Rattle.schedule_run.proofs.session.Session.start.Goals as goal
 
 pub loop-p-preserved : goal.loop-p-preserved
@@ -21,9 +22,14 @@ loop-p-preserved c =
       origins =
           ap (map origin) c.in_ok-push-2.ensures.items
           ∙ map-append origin c.loop-p.origins.items _
-          ∙ texts_more done p (map origin c.loop-p.origins.items) (origin c.origin_of_text.result)
-          c.loop-p.invariant.origins c.origin_of_text.ensures
+          ∙ same_more done p of_text (map origin c.loop-p.origins.items)
+          (origin c.origin_of_text.result) c.loop-p.invariant.origins c.origin_of_text.ensures
           ∙ ap (map (λ p. of_text)) (sym more);
+      edits =
+          c.in_ok-push-3.ensures.items
+          ∙ same_more done p unmoved c.loop-p.edits.items c.unmoved.result
+          c.loop-p.invariant.edits c.unmoved.ensures
+          ∙ ap (map (λ p. unmoved)) (sym more);
       count =
           ap length c.in_ok-push-2.ensures.items
           ∙ length_push c.loop-p.origins.items c.origin_of_text.result

@@ -1,4 +1,4 @@
-use Rattle.loop_rewrites.proofs.OfShapes.Made.{appended}
+use Rattle.step_targets.proofs.Made.{appended}
 use Rattle.loop_rewrites.proofs.nest.parting.PartingAt.loops.Goals as goal
 
 pub returns : goal.returns

@@ -1,0 +1,6 @@
+pub mod Names
+pub mod Left
+pub mod Asked
+pub mod Staging
+pub mod Carrying
+pub mod Examples

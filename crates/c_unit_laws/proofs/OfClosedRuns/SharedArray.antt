@@ -1,0 +1,278 @@
+-- The run of a function whose arguments lie in one array.
+use Rattle.std.proofs.Common.{◌≡◌, ◌<◌, ◌^◌, ◌==◌, ℕ, zero, suc, ℤ, pos, ◌*ℤ◌, ◌+ℤ◌, ◌≤ℤ◌, int_lt, Bool, true, false, ◌||◌, ◌&&◌, cond, List, [], ◌∷◌, Option, Some, None, refl, sym, ap, ◌∙◌, subst, arith, true≢false, eqb-true, nat_lt, slice_get}
+use Rattle.std.specs.Int.{int_wrap}
+use Rattle.std.proofs.lemmas.Int.{ints}
+use Rattle.exo_tree.specs.Tree.{I32, Procedure}
+use Rattle.exo_tree.specs.Calls.{calls}
+use Rattle.exo_meaning.specs.Value.{Undefined, Number, wrap}
+use Rattle.exo_meaning.specs.Scene.{Shape, whole}
+use Rattle.exo_meaning.specs.Orders.{Each}
+use Rattle.exo_meaning.specs.Run.{product, tensor, program_world}
+use Rattle.exo_meaning.specs.Inputs.{IsValid, IsBetween, IsIndex, FitsCell, offset, is_buffer_of}
+use Rattle.exo_meaning.specs.Units.{IsUnit}
+use Rattle.memory_kinds.specs.Faults.{fault_of}
+use Rattle.c_names.specs.Words.{is_word}
+use Rattle.c_names.specs.Clash.{first_clash}
+use Rattle.c_machine.specs.Machine.{Outcome, IsArray, IsWindow, Machine}
+use Rattle.c_machine.specs.CRun.{run_file}
+use Rattle.c_lowered.specs.LoweredUnit.{Printing, is_listed, is_used, global_names, lowered}
+use Rattle.c_follows.specs.Simulation.{dot, in_range}
+use Rattle.c_follows.specs.SameInput.{AreSeparate, IsSameTensor, IsSameWindow}
+use Rattle.c_follows.specs.Grounds.{declared_in}
+use Rattle.c_follows.specs.Units.{IsListing, AreLowered, IsSameStart}
+use Rattle.c_unit_laws.specs.ClosedRuns.SharedArray.{put, put_program, put_printed, by_argument, two_long, input, layout, array, machine, things, no_templates, SharedArray}
+use Rattle.c_unit_laws.proofs.OfClosedRuns.Entries.{none_some, some_same, no_number, no_entry, machine_of, one_index, one_in_range}
+
+-- ---- the C
+
+put_unit : IsUnit put_program
+put_unit = record {
+  procedures = (record { params = refl; asserts = refl; body = refl; filled = refl; ids = refl; distinct = refl; paths = refl; template = refl }, tt);
+  fields = refl;
+  memories = refl;
+  spaces = refl;
+  counts = refl;
+}
+
+abbrev IsThere : Printing → Type 0
+IsThere w = (p : Procedure) × (slice_get put_program.procedures w.proc ≡ Some p) × (p.template ≡ None)
+
+put_listing : IsListing put_program put_printed
+put_listing = record { there = there; ascends = ascends; closed = closed }
+  where
+    there : (i : ℕ) (w : Printing) → slice_get put_printed i ≡ Some w → IsThere w
+    there zero w e = subst IsThere (some_same e) (put, refl, refl)
+    there (suc i) w e = absurd (no_entry i e)
+
+    ascends : (i j : ℕ) (w v : Printing) → slice_get put_printed i ≡ Some w → slice_get put_printed j ≡ Some v → i < j → w.proc < v.proc
+    ascends zero zero w v e f h = absurd (omega (arith, h))
+    ascends zero (suc j) w v e f h = absurd (no_entry j f)
+    ascends (suc i) j w v e f h = absurd (no_entry i e)
+
+    only : (w : Printing) (p : Procedure) → slice_get put_printed 0 ≡ Some w → slice_get put_program.procedures w.proc ≡ Some p → put ≡ p
+    only w p e f = some_same (ap (λ z. slice_get put_program.procedures z.proc) (some_same e) ∙ f)
+
+    closed : (i j : ℕ) (w : Printing) (p q : Procedure) → slice_get put_printed i ≡ Some w → slice_get put_program.procedures w.proc ≡ Some p → slice_get put_program.procedures j ≡ Some q → calls j p.body ≡ true → q.template ≡ None → is_listed put_printed j ≡ true
+    closed zero j w p q e f h c t = absurd (true≢false (sym c ∙ ap (λ z. calls j z.body) (sym (only w p e f))))
+    closed (suc i) j w p q e f h c t = absurd (no_entry i e)
+
+put_named : first_clash (global_names put_program put_printed) ≡ None
+unfolding is_word
+put_named = refl
+
+put_lowered : AreLowered fault_of put_program put_printed
+put_lowered = record { listing = put_listing; memories = memories; narrow = refl; named = put_named; few = omega arith }
+  where
+    memories : (k : ℕ) → is_listed put_printed k ≡ true → fault_of put_program k ≡ None
+    memories k h = go (k == 0) refl h
+      where
+        go : (t : Bool) → (k == 0) ≡ t → (t || false) ≡ true → fault_of put_program k ≡ None
+        go true e i = ap (fault_of put_program) (eqb-true k 0 e)
+        go false e i = absurd (true≢false (sym i))
+
+-- ---- the input
+
+-- what holds of each of three holds of one of them
+by_one : {A : Type 0} (P : A → Type 0) (a b c : A) (x : ℕ) → (x ≡ 0 → P a) → (x ≡ 1 → P b) → P c → P (by_argument a b c x)
+by_one P a b c x h k l = go (x == 0) (x == 1) refl refl
+  where
+    go : (s t : Bool) → (x == 0) ≡ s → (x == 1) ≡ t → P (cond s a (cond t b c))
+    go true t e f = h (eqb-true x 0 e)
+    go false true e f = k (eqb-true x 1 f)
+    go false false e f = l
+
+zero_fits : wrap I32 (pos 0) ≡ pos 0
+unfolding int_wrap
+zero_fits = refl
+
+seven_fits : wrap I32 (pos 7) ≡ pos 7
+unfolding int_wrap
+seven_fits = refl
+
+abbrev buffer : Option Shape
+buffer = Some (tensor I32 two_long)
+
+the_shape : (b : ℕ) (shape : Shape) → input.scene.buffers b ≡ Some shape → shape ≡ tensor I32 two_long
+the_shape b shape = by_one (λ o. o ≡ Some shape → shape ≡ tensor I32 two_long) buffer buffer None b (λ i e. sym (some_same e)) (λ i e. sym (some_same e)) (λ e. absurd (none_some e))
+
+-- a buffer that is there holds numbers, and one that is not there holds nothing
+held : (b : ℕ) {P : Type 0} → (input.scene.buffers b ≡ None → ((at : List ℤ) → input.cells b at ≡ Undefined) → P) → (input.scene.buffers b ≡ buffer → ((at : List ℤ) → (n : ℤ) × (input.cells b at ≡ Number n)) → P) → P
+held b {P = P} h k = go (b == 0) (b == 1) refl refl
+  where
+    go : (s t : Bool) → (b == 0) ≡ s → (b == 1) ≡ t → P
+    go true t e f = k (ap (λ u. cond u buffer (cond (b == 1) buffer None)) e) (λ at. (pos 0, ap (λ u. cond u (Number (pos 0)) (cond (b == 1) (Number (pos 7)) Undefined)) e))
+    go false true e f = k (ap (λ u. cond u buffer (cond (b == 1) buffer None)) e ∙ ap (λ u. cond u buffer None) f) (λ at. (pos 7, ap (λ u. cond u (Number (pos 0)) (cond (b == 1) (Number (pos 7)) Undefined)) e ∙ ap (λ u. cond u (Number (pos 7)) Undefined) f))
+    go false false e f = h (ap (λ u. cond u buffer (cond (b == 1) buffer None)) e ∙ ap (λ u. cond u buffer None) f) (λ at. ap (λ u. cond u (Number (pos 0)) (cond (b == 1) (Number (pos 7)) Undefined)) e ∙ ap (λ u. cond u (Number (pos 7)) Undefined) f)
+
+same_one : (m n : ℤ) → (pos 1 *ℤ m) +ℤ pos 0 ≡ (pos 1 *ℤ n) +ℤ pos 0 → m ≡ n
+same_one m n e = omega (arith, ints, e)
+
+indices_apart : (i j : List ℤ) → IsIndex two_long i → IsIndex two_long j → offset (pos 1 ∷ []) i ≡ offset (pos 1 ∷ []) j → i ≡ j
+indices_apart i j h k e =
+    let m = one_index (pos 2) i h in
+    let n = one_index (pos 2) j k in
+    m.1 ∙ (ap (λ z. z ∷ []) (same_one m.0 n.0 (sym (ap (offset (pos 1 ∷ [])) m.1) ∙ (e ∙ ap (offset (pos 1 ∷ [])) n.1))) ∙ sym n.1)
+
+not_argument : (x : ℕ) → is_buffer_of x put.params ≡ false → (input.scene.buffers x ≡ None) × (input.scene.views x ≡ None)
+not_argument x h = go (x == 0) (x == 1) refl refl h
+  where
+    go : (s t : Bool) → (x == 0) ≡ s → (x == 1) ≡ t → (s || (t || false)) ≡ false → (input.scene.buffers x ≡ None) × (input.scene.views x ≡ None)
+    go true t e f i = absurd (true≢false i)
+    go false true e f i = absurd (true≢false i)
+    go false false e f i =
+        let seen = Some (record { buffer = x; sides = whole two_long }) in
+        (ap (λ u. cond u buffer (cond (x == 1) buffer None)) e ∙ ap (λ u. cond u buffer None) f, ap (λ u. cond u seen (cond (x == 1) seen None)) e ∙ ap (λ u. cond u seen None) f)
+
+abbrev BelowLarge : Shape → Type 0
+BelowLarge shape = product shape.dims ≤ℤ pos (2 ^ 48)
+
+valid_input : IsValid (program_world put_program) put input
+valid_input = record {
+  admissible = record {
+    arguments = ((pos 1 ∷ [], (refl, refl)), ((refl, refl), tt));
+    no_others = λ x h. (refl, (not_argument x h).0, (not_argument x h).1);
+    cells = λ b shape e at. subst (λ z. FitsCell z.cell (input.cells b at)) (sym (the_shape b shape e)) (by_one (FitsCell I32) (Number (pos 0)) (Number (pos 7)) Undefined b (λ i. zero_fits) (λ i. seven_fits) tt);
+    tidy = λ b e at. held b (λ n all. all at) (λ s all. absurd (none_some (sym e ∙ s)));
+    fields = λ f. tt;
+    asserts = refl;
+  };
+  bounded = (tt, (tt, tt));
+  fields = λ f. (omega (arith, ints), omega (arith, ints));
+  cells = λ b shape e. subst BelowLarge (sym (the_shape b shape e)) (omega (arith, ints));
+  strides = λ b shape e. subst (λ z. Each (IsBetween (pos 0) (pos (2 ^ 48))) z.strides) (sym (the_shape b shape e)) ((omega (arith, ints), omega (arith, ints)), tt);
+  separate = λ b shape e. subst (λ z. (i j : List ℤ) → IsIndex z.dims i → IsIndex z.dims j → offset z.strides i ≡ offset z.strides j → i ≡ j) (sym (the_shape b shape e)) indices_apart;
+  defined = λ b shape e at h. held b (λ n all. absurd (none_some (sym n ∙ e))) (λ s all. λ u. no_number (sym (all at).1 ∙ u));
+}
+
+-- ---- the same beginning
+
+-- spots of the two arguments
+
+step_is : (n : ℤ) → (n *ℤ pos 1) +ℤ pos 0 ≡ n
+step_is n = omega (arith, ints)
+
+x_room : (n : ℤ) → (n +ℤ pos 1) ≤ℤ pos 2 → int_lt ((n *ℤ pos 1) +ℤ pos 0) (pos 2) ≡ true
+x_room n h = subst (λ z. int_lt z (pos 2) ≡ true) (sym (step_is n)) (less n h)
+  where
+    less : (n : ℤ) → (n +ℤ pos 1) ≤ℤ pos 2 → int_lt n (pos 2) ≡ true
+    less n h = grind (arith, ints)
+
+w_room : (n : ℤ) → pos 0 ≤ℤ n → int_lt (pos 2 +ℤ ((n *ℤ pos 1) +ℤ pos 0)) (pos 2) ≡ false
+w_room n h = subst (λ z. int_lt (pos 2 +ℤ z) (pos 2) ≡ false) (sym (step_is n)) (more n h)
+  where
+    more : (n : ℤ) → pos 0 ≤ℤ n → int_lt (pos 2 +ℤ n) (pos 2) ≡ false
+    more n h = grind (arith, ints)
+
+w_inside : (n : ℤ) → (n +ℤ pos 1) ≤ℤ pos 2 → ((pos 2 +ℤ ((n *ℤ pos 1) +ℤ pos 0)) +ℤ pos 1) ≤ℤ pos 4
+w_inside n h = omega (arith, ints, h)
+
+w_apart : (m n : ℤ) → (m *ℤ pos 1) +ℤ pos 0 ≡ (n *ℤ pos 1) +ℤ pos 0 → m ≡ n
+w_apart m n e = omega (arith, ints, e)
+
+never : (m n : ℤ) → pos 0 ≤ℤ m → (n +ℤ pos 1) ≤ℤ pos 2 → pos 2 +ℤ ((m *ℤ pos 1) +ℤ pos 0) ≡ pos 0 +ℤ ((n *ℤ pos 1) +ℤ pos 0) → ⊥
+never m n h k e = omega (arith, ints, h, k, e)
+
+same_window : IsSameWindow layout input machine 0 I32 two_long (IsWindow (layout 0) (pos 1 ∷ []))
+same_window = record {
+  shape = tensor I32 two_long;
+  object = array;
+  buffer = refl;
+  thing = refl;
+  there = refl;
+  below = refl;
+  same_cell = refl;
+  few = omega (arith, ints);
+  ranks = refl;
+  above = omega (arith, ints);
+  inside = λ at h. let i = one_in_range at h in subst (λ z. ((pos 2 +ℤ dot z (pos 1 ∷ [])) +ℤ pos 1) ≤ℤ pos 4) (sym i.1) (w_inside i.0 i.3);
+  apart = λ at bt h k e.
+      let i = one_in_range at h in
+      let j = one_in_range bt k in
+      i.1 ∙ (ap (λ z. z ∷ []) (w_apart i.0 j.0 (sym (ap (λ z. dot z (pos 1 ∷ [])) i.1) ∙ (e ∙ ap (λ z. dot z (pos 1 ∷ [])) j.1))) ∙ sym j.1);
+  contents = λ at h.
+      let i = one_in_range at h in
+      ap (λ z. cond (int_lt (pos 2 +ℤ dot z (pos 1 ∷ [])) (pos 2)) (Number (pos 7)) (Number (pos 0))) i.1
+      ∙ ap (λ b. cond b (Number (pos 7)) (Number (pos 0))) (w_room i.0 i.2);
+}
+
+same_tensor : IsSameTensor layout input machine 1 I32 two_long (IsArray (layout 1))
+same_tensor = record {
+  object = array;
+  thing = refl;
+  begins = refl;
+  there = refl;
+  below = refl;
+  same_cell = refl;
+  room = omega (arith, ints);
+  few = omega (arith, ints);
+  contents = λ at h.
+      let i = one_in_range at h in
+      ap (λ z. cond (int_lt (dot z (pos 1 ∷ [])) (pos 2)) (Number (pos 7)) (Number (pos 0))) i.1
+      ∙ ap (λ b. cond b (Number (pos 7)) (Number (pos 0))) (x_room i.0 i.3);
+}
+
+spots_apart : AreSeparate layout input
+spots_apart x y shape other e f at bt r q one = go (x == 0) (y == 0) (x == 1) (y == 1) refl refl refl refl
+  where
+    no_buffer : (z : ℕ) (own : Shape) → (z == 0) ≡ false → (z == 1) ≡ false → input.scene.buffers z ≡ Some own → ⊥
+    no_buffer z own i j k = none_some (sym (ap (λ u. cond u buffer (cond (z == 1) buffer None)) i ∙ ap (λ u. cond u buffer None) j) ∙ k)
+
+    in_two : (z : ℕ) (own : Shape) (is : List ℤ) → input.scene.buffers z ≡ Some own → in_range is own.dims ≡ true → in_range is two_long ≡ true
+    in_two z own is k h = subst (λ v. in_range is v.dims ≡ true) (the_shape z own k) h
+
+    offsets : (layout x).offset +ℤ dot at (pos 1 ∷ []) ≡ (layout y).offset +ℤ dot bt (pos 1 ∷ [])
+    offsets = ap (λ z. (layout x).offset +ℤ dot at z.strides) (sym (the_shape x shape e)) ∙ (ap (λ z. z.offset) one ∙ ap (λ z. (layout y).offset +ℤ dot bt z.strides) (the_shape y other f))
+
+    begins : (z : ℕ) (t : Bool) → (z == 0) ≡ t → (layout z).offset ≡ cond t (pos 2) (pos 0)
+    begins z t i = ap (λ u. cond u (pos 2) (pos 0)) i
+
+    clash : (is js : List ℤ) → in_range is two_long ≡ true → in_range js two_long ≡ true → pos 2 +ℤ dot is (pos 1 ∷ []) ≡ pos 0 +ℤ dot js (pos 1 ∷ []) → ⊥
+    clash is js h k same =
+        let i = one_in_range is h in
+        let j = one_in_range js k in
+        never i.0 j.0 i.2 j.3 (sym (ap (λ z. pos 2 +ℤ dot z (pos 1 ∷ [])) i.1) ∙ (same ∙ ap (λ z. pos 0 +ℤ dot z (pos 1 ∷ [])) j.1))
+
+    go : (s t u v : Bool) → (x == 0) ≡ s → (y == 0) ≡ t → (x == 1) ≡ u → (y == 1) ≡ v → x ≡ y
+    go true true u v i j k l = eqb-true x 0 i ∙ sym (eqb-true y 0 j)
+    go true false u v i j k l =
+        absurd (clash at bt (in_two x shape at e r) (in_two y other bt f q)
+        (ap (λ z. z +ℤ dot at (pos 1 ∷ [])) (sym (begins x true i)) ∙ (offsets ∙ ap (λ z. z +ℤ dot bt (pos 1 ∷ [])) (begins y false j))))
+    go false true u v i j k l =
+        absurd (clash bt at (in_two y other bt f q) (in_two x shape at e r)
+        (ap (λ z. z +ℤ dot bt (pos 1 ∷ [])) (sym (begins y true j)) ∙ (sym offsets ∙ ap (λ z. z +ℤ dot at (pos 1 ∷ [])) (begins x false i))))
+    go false false true true i j k l = eqb-true x 1 k ∙ sym (eqb-true y 1 l)
+    go false false false v i j k l = absurd (no_buffer x shape i k e)
+    go false false true false i j k l = absurd (no_buffer y other j l f)
+
+no_field : (f : ℕ) → declared_in put_program put_printed f ≡ true → ⊥
+no_field f h = go (is_used put_program put_printed f) h
+  where
+    none_below : nat_lt f 0 ≡ true → ⊥
+    none_below e = grind arith
+
+    go : (t : Bool) → (t && nat_lt f 0) ≡ true → ⊥
+    go true e = none_below e
+    go false e = true≢false (sym e)
+
+same_start : IsSameStart put_program put_printed put layout input things machine
+same_start = record { arguments = (same_window, (same_tensor, tt)); fields = λ f h. absurd (no_field f h); separate = spots_apart }
+
+no_text : (k : ℕ) (p : Procedure) (text : List ℕ) → slice_get put_program.procedures k ≡ Some p → p.template ≡ Some text → ⊥
+no_text zero p text e t = none_some (ap (λ z. z.template) (some_same e) ∙ t)
+no_text (suc k) p text e t = no_entry k e
+
+abbrev ran : Outcome Machine
+ran = run_file (lowered put_program put_printed) no_templates 0 things machine
+
+pub shared_array : SharedArray
+unfolding is_word int_wrap
+shared_array = record {
+  unit = put_unit;
+  lowered_is = put_lowered;
+  none = refl;
+  does = λ i k w caller p text there at u e t. absurd (no_text k p text e t);
+  valid = valid_input;
+  start = same_start;
+  runs = refl;
+  done = (machine_of ran, refl, refl);
+}

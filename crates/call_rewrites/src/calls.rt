@@ -1,0 +1,115 @@
+//! Calls whose arguments read no field and no stride.
+ghost use Rattle.std.specs.Prelude.{◌≡◌, map, option_map};
+ghost use Rattle.exo_tree.specs.PlainArgument.{argument};
+ghost use Rattle.exo_tree.specs.PlainControl.{control, condition};
+ghost use Rattle.exo_tree.specs.PlainStatement.{statement};
+ghost use Rattle.match_laws.specs.Inline.InlineRule.{is_plain_argument, are_plain_arguments};
+ghost use Rattle.match_laws.specs.Inline.InlineRule.{called_by, called_in};
+ghost use Rattle.meaning_laws.specs.Facts.{is_plain_condition};
+ghost use Rattle.meaning_laws.specs.Substitute.{is_plain};
+ghost use Rattle.step_driver.specs.PlainTarget.{target, plain_piece};
+ghost use Rattle.step_driver.specs.Spots.{spot_at};
+ghost use Rattle.call_rewrites.specs.PlainCall.{plain_call};
+
+use exo_tree::{Arg, Args, Cond, Ctrl, ProcId, Stmt};
+use step_driver::{Piece, Target};
+
+/// Whether an expression reads no field and no stride.
+fn is_plain(e: &Ctrl) -> bool
+    ensures { result ≡ is_plain (control e.now) }
+{
+    match e {
+        Ctrl::Lit(_) => true,
+        Ctrl::Var(_) => true,
+        Ctrl::Field(_) => false,
+        Ctrl::Stride(_, _) => false,
+        Ctrl::Neg(a) => is_plain(a),
+        Ctrl::Add(a, b) => is_plain(a) && is_plain(b),
+        Ctrl::Sub(a, b) => is_plain(a) && is_plain(b),
+        Ctrl::Mul(a, b) => is_plain(a) && is_plain(b),
+        Ctrl::Div(a, _) => is_plain(a),
+        Ctrl::Mod(a, _) => is_plain(a),
+    }
+}
+
+/// The same of a condition.
+fn is_plain_condition(c: &Cond) -> bool
+    ensures { result ≡ is_plain_condition (condition c.now) }
+{
+    match c {
+        Cond::True => true,
+        Cond::False => true,
+        Cond::Var(_) => true,
+        Cond::Field(_) => false,
+        Cond::Lt(a, b) => is_plain(a) && is_plain(b),
+        Cond::Le(a, b) => is_plain(a) && is_plain(b),
+        Cond::Gt(a, b) => is_plain(a) && is_plain(b),
+        Cond::Ge(a, b) => is_plain(a) && is_plain(b),
+        Cond::Eq(a, b) => is_plain(a) && is_plain(b),
+        Cond::And(c, d) => is_plain_condition(c) && is_plain_condition(d),
+        Cond::Or(c, d) => is_plain_condition(c) && is_plain_condition(d),
+    }
+}
+
+/// The same of a control argument; other arguments are plain.
+fn is_plain_argument(a: &Arg) -> bool
+    ensures { result ≡ is_plain_argument (argument a.now) }
+{
+    match a {
+        Arg::Ctrl(e) => is_plain(e),
+        Arg::Cond(c) => is_plain_condition(c),
+        Arg::Whole(_) => true,
+        Arg::Window(_, _) => true,
+    }
+}
+
+/// The same of arguments.
+fn are_plain(args: &[Arg]) -> bool
+    ensures { result ≡ are_plain_arguments (map argument args.now) }
+{
+    match args.split_first() {
+        None => true,
+        Some((a, rest)) => is_plain_argument(a) && are_plain(rest),
+    }
+}
+
+/// A call.
+#[derive(Clone, Copy)]
+pub(crate) struct CallAt<'a> {
+    pub(crate) callee: ProcId,
+    pub(crate) args: &'a Args,
+}
+
+impl CallAt<'_> {
+    /// Whether no control argument reads a field or a stride.
+    pub(crate) fn is_plain(&self) -> bool
+        ensures { result ≡ are_plain_arguments (plain_call self.now).args }
+    {
+        are_plain(self.args.as_slice())
+    }
+}
+
+/// A call; None exactly where the statement is none.
+fn call_in(s: &Stmt) -> Option<CallAt<'_>>
+    ensures { option_map plain_call result ≡ called_by (statement s.now) }
+{
+    match s {
+        Stmt::Call(callee, args) => Some(CallAt {
+            callee: *callee,
+            args,
+        }),
+        _ => None,
+    }
+}
+
+/// The call that is all of a piece; None exactly where there is none.
+#[tactic(auto, using(crate::proofs::Called::called_alone))]
+pub(crate) fn call_at<'a>(on: &Target<'a>, piece: &Piece) -> Option<CallAt<'a>>
+    ensures { option_map plain_call result
+        ≡ called_in (spot_at (target on.now) (plain_piece piece.now)).opened.piece }
+{
+    match on.statement(piece) {
+        None => None,
+        Some(s) => call_in(s),
+    }
+}

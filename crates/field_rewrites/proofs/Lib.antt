@@ -1,0 +1,9 @@
+pub mod Following
+pub mod Ending
+pub mod Pieces
+pub mod Named
+pub mod FieldArguments
+pub mod Causes
+pub mod Answered
+pub mod AnsweredCalls
+pub mod AnsweredBinding

@@ -1,7 +1,0 @@
--- So many steps are made, and one.
-use Rattle.std.proofs.Common.{◌≡◌}
-use Rattle.loop_laws.specs.Shapes.{inside}
-use Rattle.loop_rewrites.proofs.shapes.places.inside.Given as goal
-
-abbrev pub invariant-loop : goal.invariant-loop
-invariant-loop l = l.path ≡ inside l.counter

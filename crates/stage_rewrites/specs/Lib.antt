@@ -1,0 +1,3 @@
+pub mod OnWindow
+pub mod Places
+pub mod Nests

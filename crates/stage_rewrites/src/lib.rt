@@ -1,0 +1,13 @@
+//! The step that puts a block on a buffer of its own for a window.
+#![tactic(auto)]
+
+mod drafted;
+mod ids;
+mod lists;
+mod nests;
+mod on_window;
+mod operator;
+mod places;
+mod writing;
+
+pub use operator::StagingBlock;

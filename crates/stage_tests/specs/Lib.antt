@@ -1,0 +1,3 @@
+pub mod PlainStaging
+pub mod Touched
+pub mod Fitting

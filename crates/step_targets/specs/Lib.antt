@@ -1,0 +1,2 @@
+pub mod PlainLoop
+pub mod Kinds

@@ -1,0 +1,5 @@
+pub mod Fits
+pub mod IsPut
+pub mod Window
+pub mod Wide
+mod Examples

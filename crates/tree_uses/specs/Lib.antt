@@ -1,0 +1,5 @@
+pub mod Uses
+pub mod Outcomes
+pub mod Given
+pub mod Moved
+pub mod Putting

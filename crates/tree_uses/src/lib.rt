@@ -1,0 +1,20 @@
+//! Trees with others in the place of their expressions, names and binders.
+#![tactic(auto)]
+
+mod blocks;
+mod boxes;
+mod conditions;
+mod data;
+pub mod laws;
+mod lists;
+mod puts;
+mod putting;
+mod uses;
+
+pub use blocks::used;
+pub use conditions::used_condition;
+pub use data::used_datum;
+pub use lists::{used_argument, used_controls};
+pub use puts::{Given, Puts, put_control};
+pub use putting::{OneWindow, Putting, put};
+pub use uses::Uses;

@@ -1,0 +1,6 @@
+p = divide_loop(powers, 'i', 8, ['io', 'ii'], tail='cut')
+p = expand_dim(p, 's : _', '8', 'ii')
+p = lift_alloc(p, 's : _')
+p = fission(p, find(p, 's[_] = _').after())
+p = set_memory(p, 's : _', STACK)
+emit(p)
