@@ -1,9 +1,24 @@
 -- The C of a procedure.
-use Rattle.std.specs.Prelude.{ℕ, zero, suc, ℤ, pos, ◌*ℤ◌, int_le, ◌==◌, Bool, true, false, ◌||◌, if◌then◌else◌, List, [], ◌∷◌, map, length, drop, Option, Some, None}
-use Rattle.exo_tree.specs.Tree.{Cell, I32, Index, Control, Lit, Var, Field, StrideOf, Neg, Add, Sub, Mul, Div, Mod, Condition, True, False, Flag, FieldFlag, Lt, Le, Gt, Ge, Eq, And, Or, Datum, Const, Read, Negated, Relu, Plus, Minus, Times, Select, Coord, At, Span, Argument, ControlArg, ConditionArg, Whole, Window, Statement, Assign, Reduce, Config, Pass, If, For, Alloc, View, Call, Block, end, next, Param, ParamKind, ControlParam, TensorParam, WindowParam}
+use Rattle.std.specs.Prelude.{ℕ, zero, suc, ℤ, pos, ◌*ℤ◌, int_le, ◌==◌, Bool, true, false, ◌||◌}
+use Rattle.std.specs.Prelude.{if◌then◌else◌, List, [], ◌∷◌, map, length, drop, Option, Some, None}
+use Rattle.exo_tree.specs.Tree.{Cell, I32, Index, Control, Lit, Var, Field, StrideOf, Neg, Add, Sub}
+use Rattle.exo_tree.specs.Tree.{Mul, Div, Mod, Condition, True, False, Flag, FieldFlag, Lt, Le, Gt}
+use Rattle.exo_tree.specs.Tree.{Ge, Eq, And, Or, Datum, Const, Read, Negated, Relu, Plus, Minus}
+use Rattle.exo_tree.specs.Tree.{Times, Select, Coord, At, Span, Argument, ControlArg, ConditionArg}
+use Rattle.exo_tree.specs.Tree.{Whole, Window, Statement, Assign, Reduce, Config, Pass, If, For}
+use Rattle.exo_tree.specs.Tree.{Alloc, View, Call, Block, end, next, Param, ParamKind, ControlParam}
+use Rattle.exo_tree.specs.Tree.{TensorParam, WindowParam}
 use Rattle.exo_meaning.specs.Scene.{updated}
 use Rattle.exo_meaning.specs.Units.{is_hole_of}
-use Rattle.c_tree.specs.CTree.{Name, Element, Single, Vector, Number64, Literal, Named, StrideIn, Opposite, Sum, Difference, Product, Quotient, Remainder, Test, Always, Never, IsSet, Less, LessEqual, More, MoreEqual, Equal, Both, Either, CellRef, InArray, InWindow, Number32, Literal32, Read32, Opposite32, Relu32, Sum32, Difference32, Product32, Select32, Actual, Control64, Tested, Alone, Address, WindowOf, Piece, Plain, Filled, FirstCell, CStatement, Store, AddTo, SetField, Empty, Branch, Loop, Array, Malloc, Free, Bind, CallOf, Instruction, CBlock, stop, first, followed_by}
+use Rattle.c_tree.specs.CTree.{Name, Element, Single, Vector, Number64, Literal, Named, StrideIn}
+use Rattle.c_tree.specs.CTree.{Opposite, Sum, Difference, Product, Quotient, Remainder, Test}
+use Rattle.c_tree.specs.CTree.{Always, Never, IsSet, Less, LessEqual, More, MoreEqual, Equal, Both}
+use Rattle.c_tree.specs.CTree.{Either, CellRef, InArray, InWindow, Number32, Literal32, Read32}
+use Rattle.c_tree.specs.CTree.{Opposite32, Relu32, Sum32, Difference32, Product32, Select32, Actual}
+use Rattle.c_tree.specs.CTree.{Control64, Tested, Alone, Address, WindowOf, Piece, Plain, Filled}
+use Rattle.c_tree.specs.CTree.{FirstCell, CStatement, Store, AddTo, SetField, Empty, Branch, Loop}
+use Rattle.c_tree.specs.CTree.{Array, Malloc, Free, Bind, CallOf, Instruction, CBlock, stop, first}
+use Rattle.c_tree.specs.CTree.{followed_by}
 
 pub record Memory : Type 0 where
   pub ctype : Name
@@ -44,15 +59,19 @@ number_with naming strides (Var x) = Named (naming.binder x)
 number_with naming strides (Field f) = Named (naming.field f)
 number_with naming strides (StrideOf x k) = strides x k
 number_with naming strides (Neg a) = Opposite (number_with naming strides a)
-number_with naming strides (Add a b) = Sum (number_with naming strides a) (number_with naming strides b)
-number_with naming strides (Sub a b) = Difference (number_with naming strides a) (number_with naming strides b)
-number_with naming strides (Mul a b) = Product (number_with naming strides a) (number_with naming strides b)
+number_with naming strides (Add a b) =
+    Sum (number_with naming strides a) (number_with naming strides b)
+number_with naming strides (Sub a b) =
+    Difference (number_with naming strides a) (number_with naming strides b)
+number_with naming strides (Mul a b) =
+    Product (number_with naming strides a) (number_with naming strides b)
 number_with naming strides (Div a c) = Quotient (number_with naming strides a) c
 number_with naming strides (Mod a c) = Remainder (number_with naming strides a) c
 
 abbrev pub numbers_with : Naming → (ℕ → ℕ → Number64) → List Control → List Number64
 numbers_with naming strides [] = []
-numbers_with naming strides (a ∷ as') = number_with naming strides a ∷ numbers_with naming strides as'
+numbers_with naming strides (a ∷ as') =
+    number_with naming strides a ∷ numbers_with naming strides as'
 
 -- dimensions hold no strides
 abbrev pub dims_of : Naming → List Control → List Number64
@@ -117,8 +136,11 @@ without_lanes (suc n) xs = front xs
 abbrev pub cell_ref : Naming → ℕ → Form → List Number64 → CellRef
 cell_ref naming x NoForm es = InArray (naming.binder x) (Literal (pos 0))
 cell_ref naming x NumberForm es = InArray (naming.binder x) (Literal (pos 0))
-cell_ref naming x (TensorForm cell dims lanes) es = InArray (naming.binder x) (offset (without_lanes lanes es) (without_lanes lanes (dims_of naming dims)))
-cell_ref naming x (WindowForm cell rank) es = InWindow (naming.binder x) (scaled es (window_strides (naming.binder x) 0 rank))
+cell_ref naming x (TensorForm cell dims lanes) es =
+    InArray (naming.binder x)
+    (offset (without_lanes lanes es) (without_lanes lanes (dims_of naming dims)))
+cell_ref naming x (WindowForm cell rank) es =
+    InWindow (naming.binder x) (scaled es (window_strides (naming.binder x) 0 rank))
 
 -- ---- expressions
 
@@ -155,10 +177,15 @@ number32_of naming forms (Const n) = Literal32 n
 number32_of naming forms (Read x is) = Read32 (cell_at_of naming forms x is)
 number32_of naming forms (Negated a) = Opposite32 (number32_of naming forms a)
 number32_of naming forms (Relu a) = Relu32 (number32_of naming forms a)
-number32_of naming forms (Plus a b) = Sum32 (number32_of naming forms a) (number32_of naming forms b)
-number32_of naming forms (Minus a b) = Difference32 (number32_of naming forms a) (number32_of naming forms b)
-number32_of naming forms (Times a b) = Product32 (number32_of naming forms a) (number32_of naming forms b)
-number32_of naming forms (Select a b c d) = Select32 (number32_of naming forms a) (number32_of naming forms b) (number32_of naming forms c) (number32_of naming forms d)
+number32_of naming forms (Plus a b) =
+    Sum32 (number32_of naming forms a) (number32_of naming forms b)
+number32_of naming forms (Minus a b) =
+    Difference32 (number32_of naming forms a) (number32_of naming forms b)
+number32_of naming forms (Times a b) =
+    Product32 (number32_of naming forms a) (number32_of naming forms b)
+number32_of naming forms (Select a b c d) =
+    Select32 (number32_of naming forms a) (number32_of naming forms b) (number32_of naming forms c)
+    (number32_of naming forms d)
 
 -- ---- windows and arguments
 
@@ -184,7 +211,9 @@ zeros (t ∷ ts) = Literal (pos 0) ∷ zeros ts
 
 abbrev pub whole_window : Naming → ℕ → Cell → Form → Actual
 whole_window naming x cell (WindowForm own rank) = Alone (naming.binder x)
-whole_window naming x cell form = WindowOf (length (strides_in naming x form)) cell (cell_ref naming x form (zeros (strides_in naming x form))) (strides_in naming x form)
+whole_window naming x cell form =
+    WindowOf (length (strides_in naming x form)) cell
+    (cell_ref naming x form (zeros (strides_in naming x form))) (strides_in naming x form)
 
 abbrev pub window_of : Naming → Forms → ℕ → Cell → List Coord → Actual
 window_of naming forms x cell coords =
@@ -202,14 +231,18 @@ actual_of naming forms kind (ConditionArg c) = Tested (test_of naming forms c)
 actual_of naming forms (ControlParam kind) (Whole x) = Alone (naming.binder x)
 actual_of naming forms (ControlParam kind) (Window x coords) = Alone (naming.binder x)
 actual_of naming forms (TensorParam cell dims memory) (Whole x) = whole_tensor naming forms x dims
-actual_of naming forms (TensorParam cell dims memory) (Window x coords) = Address (cell_at_of naming forms x (map lower_end coords))
-actual_of naming forms (WindowParam cell dims memory) (Whole x) = whole_window naming x cell (forms x)
-actual_of naming forms (WindowParam cell dims memory) (Window x coords) = window_of naming forms x cell coords
+actual_of naming forms (TensorParam cell dims memory) (Window x coords) =
+    Address (cell_at_of naming forms x (map lower_end coords))
+actual_of naming forms (WindowParam cell dims memory) (Whole x) =
+    whole_window naming x cell (forms x)
+actual_of naming forms (WindowParam cell dims memory) (Window x coords) =
+    window_of naming forms x cell coords
 
 abbrev pub actuals_of : Naming → Forms → List Param → List Argument → List Actual
 actuals_of naming forms [] args = []
 actuals_of naming forms (p ∷ ps) [] = []
-actuals_of naming forms (p ∷ ps) (a ∷ rest) = actual_of naming forms p.kind a ∷ actuals_of naming forms ps rest
+actuals_of naming forms (p ∷ ps) (a ∷ rest) =
+    actual_of naming forms p.kind a ∷ actuals_of naming forms ps rest
 
 abbrev pub bind_of : Name → Actual → CStatement
 bind_of w (WindowOf rank cell ref strides) = Bind rank cell w ref strides
@@ -221,7 +254,8 @@ bind_of w a = Empty
 abbrev pub first_cell : Naming → Forms → Argument → CellRef
 first_cell naming forms (ControlArg a) = InArray [] (Literal (pos 0))
 first_cell naming forms (ConditionArg c) = InArray [] (Literal (pos 0))
-first_cell naming forms (Whole x) = cell_ref naming x (forms x) (zeros (strides_in naming x (forms x)))
+first_cell naming forms (Whole x) =
+    cell_ref naming x (forms x) (zeros (strides_in naming x (forms x)))
 first_cell naming forms (Window x coords) = cell_at_of naming forms x (map lower_end coords)
 
 -- what stands for a parameter in a template: the text of a control value, or a buffer's first cell
@@ -234,7 +268,9 @@ piece_for naming forms (WindowParam cell dims memory) a = FirstCell (first_cell 
 abbrev pub piece_named : Naming → Forms → List Param → List Argument → List ℕ → Piece
 piece_named naming forms [] args name = Plain []
 piece_named naming forms (p ∷ ps) [] name = Plain []
-piece_named naming forms (p ∷ ps) (a ∷ rest) name = if is_hole_of name p then piece_for naming forms p.kind a else piece_named naming forms ps rest name
+piece_named naming forms (p ∷ ps) (a ∷ rest) name =
+    if is_hole_of name p then piece_for naming forms p.kind a
+    else piece_named naming forms ps rest name
 
 abbrev pub piece_of : Naming → Forms → List Param → List Argument → Hole → Piece
 piece_of naming forms ps args (Bytes text) = Plain text
@@ -246,12 +282,15 @@ called_by k f None fill args = CallOf f args
 called_by k f (Some holes) fill args = Instruction k (map fill holes) args
 
 abbrev pub call_of : Naming → Forms → ℕ → Routine → List Argument → CStatement
-call_of naming forms k f args = called_by k f.name f.template (piece_of naming forms f.params args) (actuals_of naming forms f.params args)
+call_of naming forms k f args =
+    called_by k f.name f.template (piece_of naming forms f.params args)
+    (actuals_of naming forms f.params args)
 
 -- ---- allocations
 
 abbrev pub element_of : Memory → Cell → Element
-element_of memory cell = if memory.lanes == 0 then Single cell else Vector memory.ctype memory.lanes cell
+element_of memory cell =
+    if memory.lanes == 0 then Single cell else Vector memory.ctype memory.lanes cell
 
 -- a dimension on the stack is a literal of at least 1; what is none counts as 0
 abbrev pub literal : Control → ℤ
@@ -261,7 +300,9 @@ literal e = pos 0
 -- the product of the literals from n on; 0 as soon as it passes 2 ^ 62
 abbrev pub stack_count_from : ℤ → List Control → ℤ
 stack_count_from n [] = n
-stack_count_from n (d ∷ ds) = if int_le (n *ℤ literal d) (pos 4611686018427387904) then stack_count_from (n *ℤ literal d) ds else pos 0
+stack_count_from n (d ∷ ds) =
+    if int_le (n *ℤ literal d) (pos 4611686018427387904) then stack_count_from (n *ℤ literal d) ds
+    else pos 0
 
 -- the number of cells, or of vectors, of an allocation on the stack
 abbrev pub stack_count : List Control → ℤ
@@ -274,36 +315,59 @@ is_empty (a ∷ rest) = false
 -- an array of its own, or one from `malloc` that is freed after the rest of the block
 abbrev pub allocated : Bool → Element → Name → ℤ → Number64 → CBlock → CBlock
 allocated true element x n amount rest = first (Array element x n) rest
-allocated false element x n amount rest = first (Malloc element x amount) (followed_by rest (first (Free x) stop))
+allocated false element x n amount rest =
+    first (Malloc element x amount) (followed_by rest (first (Free x) stop))
 
 abbrev pub alloc_of : Naming → ℕ → Cell → List Control → Memory → CBlock → CBlock
 alloc_of naming x cell dims memory rest =
     let own = without_lanes memory.lanes dims in
-    allocated (memory.stack || is_empty dims) (element_of memory cell) (naming.binder x) (stack_count own) (product_of (dims_of naming own)) rest
+    allocated (memory.stack || is_empty dims) (element_of memory cell) (naming.binder x)
+    (stack_count own) (product_of (dims_of naming own)) rest
 
 -- ---- statements and blocks
 
 abbrev pub forms_after : Naming → Statement → Forms → Forms
-forms_after naming (Alloc x cell dims memory) forms = updated forms x.id (TensorForm cell dims (naming.memory memory).lanes)
-forms_after naming (View w x coords) forms = updated forms w.id (WindowForm (cell_in (forms x) I32) (length (at_spans coords (strides_in naming x (forms x)))))
+forms_after naming (Alloc x cell dims memory) forms =
+    updated forms x.id (TensorForm cell dims (naming.memory memory).lanes)
+forms_after naming (View w x coords) forms =
+    updated forms w.id
+    (WindowForm (cell_in (forms x) I32) (length (at_spans coords (strides_in naming x (forms x)))))
 forms_after naming a forms = forms
 
 abbrev mutual
   pub block_of : Naming → Forms → Block → CBlock
   block_of naming forms end = stop
-  block_of naming forms (next a b) = before naming forms a (block_of naming (forms_after naming a forms) b)
+  block_of naming forms (next a b) =
+      before naming forms a (block_of naming (forms_after naming a forms) b)
 
   -- a statement's C, and then the rest of its block
   pub before : Naming → Forms → Statement → CBlock → CBlock
-  before naming forms (Assign x is e) rest = first (Store (cell_in (forms x) I32) (cell_at_of naming forms x is) (number32_of naming forms e)) rest
-  before naming forms (Reduce x is e) rest = first (AddTo (cell_in (forms x) I32) (cell_at_of naming forms x is) (number32_of naming forms e)) rest
-  before naming forms (Config f a) rest = first (SetField (naming.field f) (actual_of naming forms (ControlParam Index) a)) rest
+  before naming forms (Assign x is e) rest =
+      first
+      (Store (cell_in (forms x) I32) (cell_at_of naming forms x is) (number32_of naming forms e))
+      rest
+  before naming forms (Reduce x is e) rest =
+      first
+      (AddTo (cell_in (forms x) I32) (cell_at_of naming forms x is) (number32_of naming forms e))
+      rest
+  before naming forms (Config f a) rest =
+      first (SetField (naming.field f) (actual_of naming forms (ControlParam Index) a)) rest
   before naming forms Pass rest = first Empty rest
-  before naming forms (If c a b) rest = first (Branch (test_of naming forms c) (block_of naming forms a) (block_of naming forms b)) rest
-  before naming forms (For i lo hi b) rest = first (Loop (naming.binder i.id) (number_of naming forms lo) (number_of naming forms hi) (block_of naming (updated forms i.id NumberForm) b)) rest
-  before naming forms (Alloc x cell dims memory) rest = alloc_of naming x.id cell dims (naming.memory memory) rest
-  before naming forms (View w x coords) rest = first (bind_of (naming.binder w.id) (window_of naming forms x (cell_in (forms x) I32) coords)) rest
-  before naming forms (Call k args) rest = first (call_of naming forms k (naming.routine k) args) rest
+  before naming forms (If c a b) rest =
+      first (Branch (test_of naming forms c) (block_of naming forms a) (block_of naming forms b))
+      rest
+  before naming forms (For i lo hi b) rest =
+      first
+      (Loop (naming.binder i.id) (number_of naming forms lo) (number_of naming forms hi)
+      (block_of naming (updated forms i.id NumberForm) b))
+      rest
+  before naming forms (Alloc x cell dims memory) rest =
+      alloc_of naming x.id cell dims (naming.memory memory) rest
+  before naming forms (View w x coords) rest =
+      first (bind_of (naming.binder w.id) (window_of naming forms x (cell_in (forms x) I32) coords))
+      rest
+  before naming forms (Call k args) rest =
+      first (call_of naming forms k (naming.routine k) args) rest
 
 -- ---- parameters
 

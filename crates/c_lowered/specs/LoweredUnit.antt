@@ -1,13 +1,23 @@
 -- The C of a unit.
-use Rattle.std.specs.Prelude.{ℕ, zero, suc, ◌==◌, Bool, true, false, not, ◌&&◌, ◌||◌, if◌then◌else◌, List, [], ◌∷◌, ◌++◌, map, length, codes, Option, Some, None, option_map, slice_get}
+use Rattle.std.specs.Prelude.{ℕ, zero, suc, ◌==◌, Bool, true, false, not, ◌&&◌, ◌||◌, if◌then◌else◌}
+use Rattle.std.specs.Prelude.{List, [], ◌∷◌, ◌++◌, map, length, codes, Option, Some, None}
+use Rattle.std.specs.Prelude.{option_map, slice_get}
 use Rattle.std.specs.List.{list_any}
-use Rattle.exo_tree.specs.Tree.{Cell, I8, I16, I32, Ui8, Binder, Control, Lit, Var, Field, StrideOf, Neg, Add, Sub, Mul, Div, Mod, Condition, True, False, Flag, FieldFlag, Lt, Le, Gt, Ge, Eq, And, Or, Argument, ControlArg, ConditionArg, Whole, Window, Statement, Config, If, For, Alloc, Call, Block, end, next, Param, ParamKind, ControlParam, TensorParam, WindowParam, Procedure, ConfigField, MemoryKind, Program}
+use Rattle.exo_tree.specs.Tree.{Cell, I8, I16, I32, Ui8, Binder, Control, Lit, Var, Field, StrideOf}
+use Rattle.exo_tree.specs.Tree.{Neg, Add, Sub, Mul, Div, Mod, Condition, True, False, Flag}
+use Rattle.exo_tree.specs.Tree.{FieldFlag, Lt, Le, Gt, Ge, Eq, And, Or, Argument, ControlArg}
+use Rattle.exo_tree.specs.Tree.{ConditionArg, Whole, Window, Statement, Config, If, For, Alloc}
+use Rattle.exo_tree.specs.Tree.{Call, Block, end, next, Param, ParamKind, ControlParam, TensorParam}
+use Rattle.exo_tree.specs.Tree.{WindowParam, Procedure, ConfigField, MemoryKind, Program}
 use Rattle.exo_meaning.specs.Units.{Reading, Plain, Opened, Closed, InHole, same_cell}
 use Rattle.exo_calls.specs.Closed.{closed}
-use Rattle.c_tree.specs.CTree.{Name, Actual, WindowOf, CStatement, Branch, Loop, Bind, CallOf, CBlock, stop, first, Formal, Number64Param, ArrayParam, WindowParamOf, CFunction, ReportLine, StructOf, CUnit}
+use Rattle.c_tree.specs.CTree.{Name, Actual, WindowOf, CStatement, Branch, Loop, Bind, CallOf}
+use Rattle.c_tree.specs.CTree.{CBlock, stop, first, Formal, Number64Param, ArrayParam}
+use Rattle.c_tree.specs.CTree.{WindowParamOf, CFunction, ReportLine, StructOf, CUnit}
 use Rattle.c_names.specs.Words.{is_in}
 use Rattle.c_names.specs.Binders.{name_in, c_names}
-use Rattle.c_lowered.specs.Lowered.{Memory, Hole, Bytes, InBraces, Routine, Naming, param_forms, block_of, is_empty}
+use Rattle.c_lowered.specs.Lowered.{Memory, Hole, Bytes, InBraces, Routine, Naming, param_forms}
+use Rattle.c_lowered.specs.Lowered.{block_of, is_empty}
 
 -- a procedure to print: its number, the procedure of the text that it comes from, and the fields that it may leave different
 pub record Printing : Type 0 where
@@ -47,17 +57,24 @@ with_byte c (InBraces name ∷ hs) = Bytes (c ∷ []) ∷ (InBraces name ∷ hs)
 -- The parts of a template. A brace stands for itself where it is doubled; what follows a lone brace is left out.
 abbrev pub holes_from : Reading → List ℕ → List Hole
 holes_from state [] = []
-holes_from Plain (c ∷ text) = if c == 123 then holes_from Opened text else (if c == 125 then holes_from Closed text else with_byte c (holes_from Plain text))
-holes_from Opened (c ∷ text) = if c == 123 then with_byte c (holes_from Plain text) else (if c == 125 then [] else holes_from (InHole (c ∷ [])) text)
+holes_from Plain (c ∷ text) =
+    if c == 123 then holes_from Opened text
+    else (if c == 125 then holes_from Closed text else with_byte c (holes_from Plain text))
+holes_from Opened (c ∷ text) =
+    if c == 123 then with_byte c (holes_from Plain text)
+    else (if c == 125 then [] else holes_from (InHole (c ∷ [])) text)
 holes_from Closed (c ∷ text) = if c == 125 then with_byte c (holes_from Plain text) else []
-holes_from (InHole name) (c ∷ text) = if c == 125 then InBraces name ∷ holes_from Plain text else holes_from (InHole (name ++ c ∷ [])) text
+holes_from (InHole name) (c ∷ text) =
+    if c == 125 then InBraces name ∷ holes_from Plain text
+    else holes_from (InHole (name ++ c ∷ [])) text
 
 abbrev pub holes_of : List ℕ → List Hole
 holes_of = holes_from Plain
 
 abbrev pub routine_of : Option Procedure → Routine
 routine_of None = record { name = []; params = []; template = None }
-routine_of (Some p) = record { name = p.name; params = p.params; template = option_map holes_of p.template }
+routine_of (Some p) =
+    record { name = p.name; params = p.params; template = option_map holes_of p.template }
 
 -- by the table of its names
 abbrev pub naming_in : Program → List Binder → Naming
@@ -81,7 +98,12 @@ formals_of naming (p ∷ ps) = formal_of p.kind (naming.binder p.binder.id) ∷ 
 
 -- by a naming of its binders
 abbrev pub function_of : Naming → Procedure → CFunction
-function_of naming p = record { name = p.name; formals = formals_of naming p.params; body = block_of naming (param_forms p.params) p.body }
+function_of naming p =
+    record {
+      name = p.name;
+      formals = formals_of naming p.params;
+      body = block_of naming (param_forms p.params) p.body;
+    }
 
 abbrev pub function_at : Program → List Name → Option Procedure → CFunction
 function_at program globals None = record { name = []; formals = []; body = stop }
@@ -89,7 +111,9 @@ function_at program globals (Some p) = function_of (naming_in program (c_names g
 
 abbrev pub functions_of : Program → List Name → List Printing → List CFunction
 functions_of program globals [] = []
-functions_of program globals (w ∷ ws) = function_at program globals (slice_get program.procedures w.proc) ∷ functions_of program globals ws
+functions_of program globals (w ∷ ws) =
+    function_at program globals (slice_get program.procedures w.proc)
+    ∷ functions_of program globals ws
 
 -- ---- the fields that a tree reads or writes
 
@@ -160,7 +184,8 @@ counts program what = closed (λ p. true) (is_listed what) 0 program.procedures
 
 abbrev pub is_used_from : (ℕ → Bool) → ℕ → ℕ → List Procedure → Bool
 is_used_from counted f k [] = false
-is_used_from counted f k (p ∷ ps) = (counted k && in_procedure f p) || is_used_from counted f (suc k) ps
+is_used_from counted f k (p ∷ ps) =
+    (counted k && in_procedure f p) || is_used_from counted f (suc k) ps
 
 -- whether one of these reads or writes the field
 abbrev pub is_used : Program → List Printing → ℕ → Bool
@@ -169,7 +194,8 @@ is_used program what f = is_used_from (counts program what) f 0 program.procedur
 -- the names of the fields in use, in the unit's order
 abbrev pub fields_from : (ℕ → Bool) → ℕ → List ConfigField → List Name
 fields_from used k [] = []
-fields_from used k (f ∷ fs) = if used k then field_name f ∷ fields_from used (suc k) fs else fields_from used (suc k) fs
+fields_from used k (f ∷ fs) =
+    if used k then field_name f ∷ fields_from used (suc k) fs else fields_from used (suc k) fs
 
 abbrev pub fields_of : Program → List Printing → List Name
 fields_of program what = fields_from (is_used program what) 0 program.fields
@@ -195,7 +221,8 @@ stands_in_procedure memory (Some p) = stands_in memory p.body
 -- whether a printed procedure allocates in the memory
 abbrev pub is_filled : Program → List Printing → ℕ → Bool
 is_filled program [] memory = false
-is_filled program (w ∷ ws) memory = stands_in_procedure memory (slice_get program.procedures w.proc) || is_filled program ws memory
+is_filled program (w ∷ ws) memory =
+    stands_in_procedure memory (slice_get program.procedures w.proc) || is_filled program ws memory
 
 abbrev pub is_new : List Name → Name → Bool
 is_new seen header = not (is_empty header) && not (is_in seen header)
@@ -203,7 +230,10 @@ is_new seen header = not (is_empty header) && not (is_in seen header)
 -- each header once, in the unit's order
 abbrev pub headers_from : (ℕ → Bool) → ℕ → List Name → List MemoryKind → List Name
 headers_from filled k seen [] = []
-headers_from filled k seen (m ∷ ms) = if filled k && is_new seen m.header then m.header ∷ headers_from filled (suc k) (seen ++ m.header ∷ []) ms else headers_from filled (suc k) seen ms
+headers_from filled k seen (m ∷ ms) =
+    if filled k && is_new seen m.header
+    then m.header ∷ headers_from filled (suc k) (seen ++ m.header ∷ []) ms
+    else headers_from filled (suc k) seen ms
 
 abbrev pub headers_of : Program → List Printing → List Name
 headers_of program what = headers_from (is_filled program what) 0 [] program.memories
@@ -256,7 +286,8 @@ all_structs = structs_from 8 1
 
 abbrev pub kept_structs : List CFunction → List StructOf → List StructOf
 kept_structs fs [] = []
-kept_structs fs (s ∷ rest) = if list_any (names_struct s) fs then s ∷ kept_structs fs rest else kept_structs fs rest
+kept_structs fs (s ∷ rest) =
+    if list_any (names_struct s) fs then s ∷ kept_structs fs rest else kept_structs fs rest
 
 abbrev pub structs_of : List CFunction → List StructOf
 structs_of fs = kept_structs fs all_structs
@@ -269,14 +300,20 @@ name_of (Some p) = p.name
 
 abbrev pub printed_names : Program → List Printing → List Name
 printed_names program [] = []
-printed_names program (w ∷ ws) = name_of (slice_get program.procedures w.proc) ∷ printed_names program ws
+printed_names program (w ∷ ws) =
+    name_of (slice_get program.procedures w.proc) ∷ printed_names program ws
 
 -- the names of all functions, and then of all fields
 abbrev pub global_names : Program → List Printing → List Name
 global_names program what = printed_names program what ++ fields_of program what
 
 abbrev pub line_of : Program → Printing → ReportLine
-line_of program w = record { name = name_of (slice_get program.procedures w.proc); origin = w.origin; differs = map (named_field field_word program.fields) w.fields }
+line_of program w =
+    record {
+      name = name_of (slice_get program.procedures w.proc);
+      origin = w.origin;
+      differs = map (named_field field_word program.fields) w.fields;
+    }
 
 -- the C of the listed procedures
 abbrev pub lowered : Program → List Printing → CUnit
