@@ -47,7 +47,8 @@ fn in_controls<N: Names>(names: &N, es: &[Ctrl]) -> bool
     }
 }
 
-fn in_condition<N: Names>(names: &N, c: &Cond) -> bool
+/// Whether a condition mentions one of them.
+pub fn in_condition<N: Names>(names: &N, c: &Cond) -> bool
     ensures { result ≡ plain.in_condition (N.names names.now) (condition c.now) }
 {
     match c {

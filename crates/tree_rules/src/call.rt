@@ -2,8 +2,12 @@
 ghost use Rattle.std.specs.Prelude.{◌≡◌, ◌||◌, map};
 ghost use Rattle.exo_tree.specs.PlainArgument.{argument};
 ghost use Rattle.exo_tree.specs.PlainParam.{parameter};
+ghost use Rattle.exo_tree.specs.PlainUnit.{program};
+ghost use Rattle.exo_meaning.specs.Modes.{modes_at};
 ghost use Rattle.exo_meaning.specs.Units as units;
 ghost use Rattle.exo_modes.specs.Aliases.{roots_in};
+ghost use Rattle.exo_modes.specs.Marks.{writing};
+ghost use Rattle.exo_modes.specs.Seen.{table_says};
 ghost use Rattle.tree_rules.specs.Classes.{both, rule};
 ghost use Rattle.tree_rules.specs.Findings as found;
 ghost use Rattle.tree_rules.specs.Seen.{kinds_seen, scope_seen};
@@ -116,6 +120,25 @@ fn share_nothing_written(
     let buffer = ground.root_of(aliases, a);
     !is_shared(ground, aliases, callee, p, buffer, params, args)
         && share_nothing_written(ground, aliases, callee, params, args)
+}
+
+/// Whether a call of a procedure of the unit with these parameters gives no two of them parts of one
+/// buffer, of which it writes one and one is a tensor with dimensions. The table says what each
+/// procedure of the unit touches, and the aliases which buffer a name is a part of.
+pub fn gives_apart(
+    unit: &Unit,
+    modes: &ModeTable,
+    aliases: &[Alias],
+    callee: ProcId,
+    params: &Params,
+    args: &Args,
+) -> bool
+    ensures { result ≡ units.share_nothing_written (units.field_kind (program unit.now).fields)
+        (writing (modes_at (table_says modes.now) callee.0)) (roots_in aliases.now) params.now
+        args.now }
+{
+    let ground = Ground { unit, modes };
+    share_nothing_written(&ground, aliases, callee, params.as_slice(), args.as_slice())
 }
 
 /// What is found in a call of a procedure with these parameters.

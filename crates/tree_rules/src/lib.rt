@@ -15,6 +15,7 @@ mod statement;
 mod walk;
 
 pub use body::{findings_of_body, findings_of_version};
+pub use call::gives_apart;
 pub use count::count_block;
 pub use findings::Findings;
 pub use place::{PlaceScope, findings_of_condition_at};

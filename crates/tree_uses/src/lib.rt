@@ -15,6 +15,6 @@ pub use blocks::used;
 pub use conditions::used_condition;
 pub use data::used_datum;
 pub use lists::{used_argument, used_controls};
-pub use puts::{Given, Puts, put_control};
+pub use puts::{Given, Puts, nth_span, put_control};
 pub use putting::{OneWindow, Putting, put};
 pub use uses::Uses;

@@ -101,8 +101,8 @@ fn one_more(k: u32) -> Result<u32, AllocError>
     }
 }
 
-/// The coordinate over which coordinate `k` of a window runs.
-fn nth_span(coords: &[Coord], k: u32) -> Result<u32, AllocError>
+/// The coordinate over which coordinate `k` of a window runs: of its buffer.
+pub fn nth_span(coords: &[Coord], k: u32) -> Result<u32, AllocError>
     ensures { IfOk result (λ n. n ≡ windows.nth_span (map coordinate coords.now) k) }
 {
     match coords.split_first() {
