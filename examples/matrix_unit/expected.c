@@ -14,7 +14,7 @@ int64_t Unit_clip;
 
 void product(int64_t n, int8_t *A, int8_t *B, int32_t *C) {
     Unit_row = n;
-    Unit_clip = 1;
+    unit_clip(1);
     for (int64_t i = 0LL; i < exo_div(n, 4LL); i++) {
         for (int64_t j = 0LL; j < exo_div(n, 4LL); j++) {
             int32_t *sum = (int32_t *)malloc((size_t)(4LL * 4LL) * sizeof(int32_t));
@@ -32,5 +32,5 @@ void product(int64_t n, int8_t *A, int8_t *B, int32_t *C) {
             free(sum);
         }
     }
-    Unit_clip = 0;
+    unit_clip(0);
 }

@@ -21,6 +21,11 @@ class SUM:
     reduce = False
     include = "unit.h"
 
+# Clipping is set by an instruction of its own.
+@instr("unit_clip({on});")
+def set_clip(on: bool):
+    Unit.clip = on
+
 @instr("unit_clear(&{sum_data});")
 def clear(sum: [i32][4, 4] @ SUM):
     assert stride(sum, 0) == 4

@@ -4,6 +4,8 @@
 extern int64_t Unit_row;
 extern int64_t Unit_clip;
 
+static inline void unit_clip(int64_t on) { Unit_clip = on; }
+
 static inline void unit_clear(int32_t *sum) {
     for (int k = 0; k < 16; k++) sum[k] = 0;
 }

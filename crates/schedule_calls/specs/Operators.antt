@@ -39,6 +39,7 @@ rows =
     ∷ (codes "stage_mem", At change.StageMem)
     ∷ (codes "inline_window", At (Alone alone.InlineWindow))
     ∷ (codes "inline", At (Alone alone.Inline))
+    ∷ (codes "replace", At (change.WithWord word.Replace))
     ∷ (codes "write_config", At change.WriteConfig)
     ∷ (codes "delete_config", At (Alone alone.DeleteConfig))
     ∷ (codes "bind_config", At change.BindConfig)

@@ -36,7 +36,6 @@ pub enum ControlOperator {
 #[derive(Clone, Copy)]
 pub enum WordOperator {
     SetMemory,
-    /// No name stands for it yet.
     Replace,
     CallEqv,
 }
@@ -67,7 +66,7 @@ pub enum ChangeOperator {
     BindExpr,
     /// `CONTROL, CONTROL`
     ExpandDim,
-    /// `WINDOW, NAME, KEYS`; no name stands for it yet.
+    /// `WINDOW, NAME, KEYS`
     StageMem,
     /// `WORD, NAME, EXPRESSION`
     WriteConfig,
@@ -91,7 +90,7 @@ pub enum Operator {
 }
 
 /// The operators that there are, each with its name.
-const ROWS: [(&[u8], Operator); 30] = [
+const ROWS: [(&[u8], Operator); 31] = [
     (b"reorder_loops", At(Alone(CursorOperator::ReorderLoops))),
     (b"divide_loop", At(ChangeOperator::DivideLoop)),
     (b"cut_loop", At(WithControl(ControlOperator::CutLoop))),
@@ -120,6 +119,10 @@ const ROWS: [(&[u8], Operator); 30] = [
     (b"stage_mem", At(ChangeOperator::StageMem)),
     (b"inline_window", At(Alone(CursorOperator::InlineWindow))),
     (b"inline", At(Alone(CursorOperator::Inline))),
+    (
+        b"replace",
+        At(ChangeOperator::WithWord(WordOperator::Replace)),
+    ),
     (b"write_config", At(ChangeOperator::WriteConfig)),
     (b"delete_config", At(Alone(CursorOperator::DeleteConfig))),
     (b"bind_config", At(ChangeOperator::BindConfig)),

@@ -1,10 +1,7 @@
 -- Expressions in what a line asks for have the forms of their places.
-use Rattle.std.proofs.Common.{◌≡◌, ℕ, List, [], ◌∷◌, Bool, true, false, Some, refl, subst}
-use Rattle.std.specs.Prelude.{◌&&◌, if◌then◌else◌}
+use Rattle.std.proofs.Common.{◌≡◌, ℕ, List, Bool, true, false, refl}
+use Rattle.std.specs.Prelude.{◌&&◌}
 use Rattle.std.specs.List.{list_all}
-use Rattle.std.specs.Str.{bytes_eq}
-use Rattle.exo_meaning.specs.Orders.{Each}
-use Rattle.meaning_laws.proofs.Parts.{some_injective}
 use Rattle.text_expressions.specs.Expression.{Tree}
 use Rattle.rules_names.specs.Arguments.{is_control_form, is_condition_form, is_coordinate_form}
 use Rattle.schedule_text.specs.Tree as tree
@@ -16,7 +13,6 @@ use Rattle.schedule_calls.specs.declared.operator.WholeOperator.{WholeOperator}
 use Rattle.schedule_calls.specs.declared.operator.WholeOperator.TheVariants as whole
 use Rattle.schedule_calls.specs.declared.operator.ChangeOperator.{ChangeOperator}
 use Rattle.schedule_calls.specs.declared.operator.Operator.{Operator}
-use Rattle.schedule_calls.specs.Operators.{rows, operator_among, operator_of}
 use Rattle.schedule_calls.specs.Requests.{Asked, Window, Change, Alone, WithControl, WithWord}
 use Rattle.schedule_calls.specs.Requests.{MultLoops, Specialize, CommuteExpr, BindExpr, ExpandDim}
 use Rattle.schedule_calls.specs.Requests.{StageMem, WriteConfig, BindConfig, DivideLoop}
@@ -26,8 +22,7 @@ use Rattle.schedule_calls.specs.Readings.{AsksOperation, Asks}
 use Rattle.schedule_calls.specs.Readings as asks
 use Rattle.schedule_laws.specs.Versions.Versions.{Versions}
 use Rattle.schedule_laws.specs.Operators.Operators.{cursor_call, word_call, whole_call, change_call}
-use Rattle.schedule_run.specs.Planned.{change_is_built, operator_is_built, change_has_form, has_form}
-use Rattle.schedule_run.specs.Planned.{have_forms}
+use Rattle.schedule_run.specs.Planned.{change_has_form, has_form, have_forms}
 
 control_form : (b : tree.Argument) (e : Tree) → AsksControl b e → is_control_form e ≡ true
 control_form (tree.string pieces) e h = h.form
@@ -55,58 +50,35 @@ both_forms : (a b : Bool) → a ≡ true → b ≡ true → (a && b) ≡ true
 both_forms true b h k = k
 both_forms false b h k = h
 
--- ---- the operators of the table are built
-
-among : (rows : List (List ℕ × Operator))
-    → Each (λ (row : List ℕ × Operator). operator_is_built row.1 ≡ true) rows
-    → (name : List ℕ) (o : Operator) → operator_among rows name ≡ Some o
-    → operator_is_built o ≡ true
-among [] are name o h = cc
-among (row ∷ more) are name o h =
-    by (bytes_eq name row.0) (among more are.1 name o) h
-  where
-    by : (t : Bool) → (operator_among more name ≡ Some o → operator_is_built o ≡ true)
-        → (if t then Some row.1 else operator_among more name) ≡ Some o
-        → operator_is_built o ≡ true
-    by true rest h = subst (λ (x : Operator). operator_is_built x ≡ true) (some_injective row.1 o h) are.0
-    by false rest h = rest h
-
-built : (name : List ℕ) (o : Operator) → operator_of name ≡ Some o → operator_is_built o ≡ true
-unfolding operator_of
-built name o h = among rows are name o h
-  where
-    are : Each (λ (row : List ℕ × Operator). operator_is_built row.1 ≡ true) rows
-    are = (refl, (refl, (refl, (refl, (refl, (refl, (refl, (refl, (refl, (refl, (refl, (refl, (refl, (refl, (refl, (refl, (refl, (refl, (refl, (refl, (refl, (refl, (refl, (refl, (refl, (refl, (refl, (refl, (refl, (refl, tt))))))))))))))))))))))))))))))
-
 -- ---- what is asked has its form
 
 change_form : (o : ChangeOperator) (args : List tree.Argument) (change : Change)
-    → AsksChange o args change → change_is_built o ≡ true → change_has_form change ≡ true
-change_form _ _ _ (asks.alone o) is = is
-change_form _ _ _ (asks.with_control o a e h) is = control_form a e h
-change_form _ _ _ (asks.with_word o a word h) is = is
-change_form _ _ _ (asks.mult_loops a name h) is = refl
-change_form _ _ _ (asks.specialize a c h) is = condition_form a c h
-change_form _ _ _ (asks.commute_expr a x h) is = refl
-change_form _ _ _ (asks.bind_expr a b x name h k) is = refl
-change_form _ _ _ (asks.expand_dim a b size point h k) is =
+    → AsksChange o args change → change_has_form change ≡ true
+change_form _ _ _ (asks.alone o) = refl
+change_form _ _ _ (asks.with_control o a e h) = control_form a e h
+change_form _ _ _ (asks.with_word o a word h) = refl
+change_form _ _ _ (asks.mult_loops a name h) = refl
+change_form _ _ _ (asks.specialize a c h) = condition_form a c h
+change_form _ _ _ (asks.commute_expr a x h) = refl
+change_form _ _ _ (asks.bind_expr a b x name h k) = refl
+change_form _ _ _ (asks.expand_dim a b size point h k) =
     both_forms (is_control_form size) (is_control_form point) (control_form a size h)
     (control_form b point k)
-change_form _ _ _ (asks.stage_mem a b keys w name accum h k i) is = window_form a w h
-change_form _ _ _ (asks.write_config a b c config field e h i k) is = refl
-change_form _ _ _ (asks.bind_config a b c param config field h i k) is = refl
-change_form _ _ _ (asks.divide_loop a b keys d h) is = refl
-change_form _ _ _ (asks.eliminate_dead_code keys keep h) is = refl
+change_form _ _ _ (asks.stage_mem a b keys w name accum h k i) = window_form a w h
+change_form _ _ _ (asks.write_config a b c config field e h i k) = refl
+change_form _ _ _ (asks.bind_config a b c param config field h i k) = refl
+change_form _ _ _ (asks.divide_loop a b keys d h) = refl
+change_form _ _ _ (asks.eliminate_dead_code keys keep h) = refl
 
 operation_form : (o : Operator) (args : List tree.Argument) (operation : Operation)
-    → AsksOperation o args operation → operator_is_built o ≡ true → has_form operation ≡ true
-operation_form _ _ _ (asks.at o a more asked change h k) is = change_form o more change k is
-operation_form _ _ _ (asks.whole o) is = is
-operation_form _ _ _ (asks.rename a name h) is = refl
+    → AsksOperation o args operation → has_form operation ≡ true
+operation_form _ _ _ (asks.at o a more asked change h k) = change_form o more change k
+operation_form _ _ _ (asks.whole o) = refl
+operation_form _ _ _ (asks.rename a name h) = refl
 
 pub asked_forms : (line : tree.Line) (r : Request) → Asks line r → have_forms r ≡ true
 asked_forms _ _ (asks.apply bind name of args o operation there h i) =
-    operation_form o args.more operation i (built name o there)
+    operation_form o args.more operation i
 asked_forms _ _ (asks.search bind f p nth h) = refl
 asked_forms _ _ (asks.moved bind of m ms) = refl
 asked_forms _ _ (asks.emit name) = refl

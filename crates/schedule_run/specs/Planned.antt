@@ -1,5 +1,5 @@
 -- What an operator makes of a version, before anything is shown.
-use Rattle.std.specs.Prelude.{◌++◌, ◌&&◌, ℕ, Bool, true, false, if◌then◌else◌, List, length}
+use Rattle.std.specs.Prelude.{◌++◌, ◌&&◌, ℕ, Bool, true, if◌then◌else◌, List, length}
 use Rattle.std.specs.Prelude.{Option, Some, None}
 use Rattle.std.specs.List.{list_all}
 use Rattle.exo_tree.specs.Tree.{Procedure, Program}
@@ -14,16 +14,6 @@ use Rattle.step_rules.specs.Rule as rule
 use Rattle.step_rules.specs.Answer.{proposed}
 use Rattle.tree_laws.specs.Findings.Versions.{with_version}
 use Rattle.rules_names.specs.Arguments.{is_control_form, is_condition_form, is_coordinate_form}
-use Rattle.schedule_calls.specs.declared.operator.CursorOperator.{CursorOperator}
-use Rattle.schedule_calls.specs.declared.operator.CursorOperator.TheVariants as alone
-use Rattle.schedule_calls.specs.declared.operator.WordOperator.{WordOperator}
-use Rattle.schedule_calls.specs.declared.operator.WordOperator.TheVariants as word
-use Rattle.schedule_calls.specs.declared.operator.WholeOperator.{WholeOperator}
-use Rattle.schedule_calls.specs.declared.operator.WholeOperator.TheVariants as whole
-use Rattle.schedule_calls.specs.declared.operator.ChangeOperator.{ChangeOperator}
-use Rattle.schedule_calls.specs.declared.operator.ChangeOperator.TheVariants as change
-use Rattle.schedule_calls.specs.declared.operator.Operator.{Operator}
-use Rattle.schedule_calls.specs.declared.operator.Operator.TheVariants as operator
 use Rattle.schedule_calls.specs.Requests.{Asked, Change, Alone, WithControl, WithWord, MultLoops}
 use Rattle.schedule_calls.specs.Requests.{Specialize, CommuteExpr, BindExpr, ExpandDim, StageMem}
 use Rattle.schedule_calls.specs.Requests.{WriteConfig, BindConfig, DivideLoop, EliminateDeadCode}
@@ -73,56 +63,11 @@ place_at v k at stands = then_make (as_found (sought v k at)) (λ c. as_tried (s
 
 -- ---- expressions in lines
 
--- the operators that are built
-abbrev pub cursor_is_built : CursorOperator → Bool
-cursor_is_built alone.ReorderLoops = true
-cursor_is_built alone.JoinLoops = true
-cursor_is_built alone.Fission = true
-cursor_is_built alone.Fuse = true
-cursor_is_built alone.UnrollLoop = true
-cursor_is_built alone.RemoveLoop = true
-cursor_is_built alone.LiftScope = true
-cursor_is_built alone.ReorderStmts = true
-cursor_is_built alone.LiftAlloc = true
-cursor_is_built alone.DeleteBuffer = true
-cursor_is_built alone.Inline = true
-cursor_is_built alone.InlineWindow = true
-cursor_is_built alone.DeleteConfig = true
-
-abbrev pub word_is_built : WordOperator → Bool
-word_is_built word.SetMemory = true
-word_is_built word.Replace = false
-word_is_built word.CallEqv = true
-
-abbrev pub whole_is_built : WholeOperator → Bool
-whole_is_built whole.DeletePass = true
-whole_is_built whole.Simplify = true
-
-abbrev pub change_is_built : ChangeOperator → Bool
-change_is_built (change.Alone o) = cursor_is_built o
-change_is_built (change.WithControl o) = true
-change_is_built (change.WithWord o) = word_is_built o
-change_is_built change.MultLoops = true
-change_is_built change.Specialize = true
-change_is_built change.CommuteExpr = true
-change_is_built change.BindExpr = true
-change_is_built change.ExpandDim = true
-change_is_built change.StageMem = true
-change_is_built change.WriteConfig = true
-change_is_built change.BindConfig = true
-change_is_built change.DivideLoop = true
-change_is_built change.EliminateDeadCode = true
-
-abbrev pub operator_is_built : Operator → Bool
-operator_is_built (operator.At o) = change_is_built o
-operator_is_built (operator.Whole o) = whole_is_built o
-operator_is_built operator.Rename = true
-
--- the operator is built, and expressions have the forms of their places, as in each line
+-- expressions have the forms of their places, as in each line
 abbrev pub change_has_form : Change → Bool
-change_has_form (Alone o) = cursor_is_built o
+change_has_form (Alone o) = true
 change_has_form (WithControl o e) = is_control_form e
-change_has_form (WithWord o word) = word_is_built o
+change_has_form (WithWord o word) = true
 change_has_form (MultLoops name) = true
 change_has_form (Specialize c) = is_condition_form c
 change_has_form (CommuteExpr x) = true
@@ -136,7 +81,7 @@ change_has_form (EliminateDeadCode keep) = true
 
 abbrev pub has_form : Operation → Bool
 has_form (At at change) = change_has_form change
-has_form (Whole o) = whole_is_built o
+has_form (Whole o) = true
 has_form (Rename name) = true
 
 abbrev pub have_forms : Request → Bool

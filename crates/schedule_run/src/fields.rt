@@ -16,6 +16,7 @@ ghost use Rattle.config_live.specs.Origins.{origin};
 ghost use Rattle.cursor_forward.specs.PlainProposal.{plain_proposal};
 ghost use Rattle.field_laws.specs.FieldRules as laws;
 ghost use Rattle.field_laws.specs.FieldRules.{version_rule, write_rule};
+ghost use Rattle.unify_laws.specs.Replace.Rule.{replace_rule};
 ghost use Rattle.step_rules.specs.Answer as answer;
 ghost use Rattle.step_rules.specs.Lawful.{IsTarget, config_side};
 ghost use Rattle.step_driver.specs.PlainTarget.{target};
@@ -24,7 +25,7 @@ ghost use Rattle.schedule_calls.specs.Requests as request;
 ghost use Rattle.schedule_laws.specs.Operators.Arguments as plain;
 ghost use Rattle.schedule_laws.specs.Operators.Arguments.{field_named, kind_or, value_has_form};
 ghost use Rattle.schedule_laws.specs.Operators.Arguments.{version_named};
-ghost use Rattle.schedule_laws.specs.Operators.Calls.{field_call, numbered_call};
+ghost use Rattle.schedule_laws.specs.Operators.Calls.{counted_call, field_call, numbered_call};
 ghost use Rattle.schedule_laws.specs.Operators.Operators.{call_of, change_call};
 ghost use Rattle.schedule_run.specs.Outcomes.{Makes};
 ghost use Rattle.schedule_run.specs.Planned.{as_tried, if_known, planned};
@@ -40,11 +41,13 @@ use crate::why::Why;
 use cursor_forward::{Proposal, Side};
 use exo_tree::{Arg, FieldId, Kind, Name, Unit};
 use field_rewrites::{BindingField, CallingVersion, WritingField};
+use match_rewrites::Replacing;
 use rules_names::argument::{is_condition_form, is_control_form};
 use rules_scopes::{cond_at, ctrl_at};
 use schedule_calls::{Asked, Change, Operation};
 use std::alloc::Global;
 use step_driver::Target;
+use step_targets::AtPiece;
 use text_expressions::source::SourceExpr;
 use text_lexer::text::Text;
 
@@ -131,6 +134,33 @@ pub(crate) fn call_eqv_at(
         Some(version) => at_statement(alloc, on, s, at, &CallingVersion { version }),
         None => Err(Why::UnknownName),
     }
+}
+
+/// `replace`
+pub(crate) fn replace_at(
+    alloc: Global,
+    on: &Target<'_>,
+    s: &Session,
+    at: &Asked<'_>,
+    name: &Text,
+) -> Result<Proposal, Why>
+    requires modes { table_says on.now.modes.now ≡ modes_of (program on.now.unit.now) }
+    requires target { IsTarget (target on.now) }
+    requires unit { program on.now.unit.now ≡ program s.now.unit }
+    requires origins { map origin on.now.origins.now ≡ (versions s.now).origins }
+    ensures { Makes plain_proposal
+        (planned (versions s.now) on.now.number.0 (procedure on.now.proc.now)
+        (counted_call (version_named name.now) (plain_asked at.now) replace_rule)) result }
+{
+    let Some(callee) = s.version_of(name.as_slice()) else {
+        return Err(Why::UnknownName);
+    };
+    let piece = s.block_at(alloc, on.number, at)?;
+    let op = AtPiece(Replacing {
+        callee,
+        count: piece.count,
+    });
+    proposed(alloc, on, &piece.path, &op)
 }
 
 /// `bind_config`

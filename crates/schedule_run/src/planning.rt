@@ -19,12 +19,11 @@ ghost use Rattle.schedule_laws.specs.Operators.Calls.{gap_call, procedure_call, 
 ghost use Rattle.schedule_laws.specs.Operators.Operators.{call_of, change_call, cursor_call};
 ghost use Rattle.schedule_laws.specs.Operators.Operators.{dead_code_rule, whole_call, word_call};
 ghost use Rattle.schedule_run.specs.Outcomes.{Makes};
-ghost use Rattle.schedule_run.specs.Planned.{as_tried, change_has_form, cursor_is_built, has_form};
-ghost use Rattle.schedule_run.specs.Planned.{planned, whole_is_built, word_is_built};
+ghost use Rattle.schedule_run.specs.Planned.{as_tried, change_has_form, has_form, planned};
 ghost use Rattle.schedule_run.specs.PlainVersions.{versions};
 
 use crate::buffers::{bind_expr_at, expand_dim_at, lift_alloc_at, set_memory_at};
-use crate::fields::{bind_config_at, call_eqv_at, write_config_at};
+use crate::fields::{bind_config_at, call_eqv_at, replace_at, write_config_at};
 use crate::resolving::{by_control, specialize_at};
 use crate::session::Session;
 use crate::staging::stage_mem_at;
@@ -178,7 +177,6 @@ fn at_cursor(
     requires target { IsTarget (target on.now) }
     requires unit { program on.now.unit.now ≡ program s.now.unit }
     requires origins { map origin on.now.origins.now ≡ (versions s.now).origins }
-    requires built { cursor_is_built operator ≡ true }
     ensures { Makes plain_proposal
         (planned (versions s.now) on.now.number.0 (procedure on.now.proc.now)
         (cursor_call operator (plain_asked at.now))) result }
@@ -213,7 +211,6 @@ fn by_word(
     requires target { IsTarget (target on.now) }
     requires unit { program on.now.unit.now ≡ program s.now.unit }
     requires origins { map origin on.now.origins.now ≡ (versions s.now).origins }
-    requires built { word_is_built operator ≡ true }
     ensures { Makes plain_proposal
         (planned (versions s.now) on.now.number.0 (procedure on.now.proc.now)
         (word_call operator name.now (plain_asked at.now))) result }
@@ -221,7 +218,7 @@ fn by_word(
     match operator {
         WordOperator::SetMemory => set_memory_at(alloc, on, s, at, name),
         WordOperator::CallEqv => call_eqv_at(alloc, on, s, at, name),
-        WordOperator::Replace => Err(Why::UnknownName),
+        WordOperator::Replace => replace_at(alloc, on, s, at, name),
     }
 }
 
@@ -282,7 +279,6 @@ fn on_whole(
     requires target { IsTarget (target on.now) }
     requires unit { program on.now.unit.now ≡ program s.now.unit }
     requires origins { map origin on.now.origins.now ≡ (versions s.now).origins }
-    requires built { whole_is_built operator ≡ true }
     ensures { Makes plain_proposal
         (planned (versions s.now) on.now.number.0 (procedure on.now.proc.now)
         (whole_call operator)) result }

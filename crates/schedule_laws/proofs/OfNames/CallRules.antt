@@ -1,8 +1,9 @@
--- The rules that inline views and calls give names that were there.
-use Rattle.std.proofs.Common.{◌≡◌, ℕ, Option, Some, None, option_map}
+-- The rules that inline views and calls, or put a call in the place of a block, give names that were
+-- there.
+use Rattle.std.proofs.Common.{◌≡◌, ℕ, List, Option, Some, None, option_map}
 use Rattle.std.proofs.Common.{refl, subst}
 use Rattle.std.specs.Prelude.{slice_get}
-use Rattle.exo_tree.specs.Tree.{Statement, Assign, Reduce, Config, Pass, If, For, Alloc}
+use Rattle.exo_tree.specs.Tree.{Argument, Statement, Assign, Reduce, Config, Pass, If, For, Alloc}
 use Rattle.exo_tree.specs.Tree.{View, Call, Block, end, next, Procedure, Window}
 use Rattle.exo_tree.specs.Renaming.{fresh_id}
 use Rattle.text_show_laws.specs.Named.{IsNamedStatement, IsNamedBlock, IsNamedProcedure, AreNamed}
@@ -11,7 +12,8 @@ use Rattle.match_laws.specs.Inline.AtOnce.{Put, puts}
 use Rattle.match_laws.specs.Inline.FreshCallee.{ids_of}
 use Rattle.match_laws.specs.Inline.InlineRule.{Called, called_in, with_fresh_ids}
 use Rattle.match_laws.specs.Inline.InlineWindowRule.{window_draft}
-use Rattle.step_rules.specs.Rule.{Got}
+use Rattle.step_rules.specs.Rule.{Tried, Got, Not}
+use Rattle.step_rules.specs.Answer.{then_try}
 use Rattle.step_rules.specs.Lawful.{old}
 use Rattle.step_rules.proofs.Shapes.{made_of}
 use Rattle.loop_laws.proofs.Sites.{found_then}
@@ -19,8 +21,9 @@ use Rattle.call_laws.specs.Here.{inlined_by}
 use Rattle.call_laws.specs.Inline.{inlined_there, inline_rule}
 use Rattle.call_laws.specs.InlineWindow.{inline_window_rule}
 use Rattle.call_laws.specs.Puts.{put_under_statement, put_under, after}
+use Rattle.unify_laws.specs.Replace.Rule.{said, replace_rule}
 use Rattle.schedule_laws.specs.Names.Rules.{IsNaming}
-use Rattle.schedule_laws.proofs.OfNames.LoopRules.{some_same}
+use Rattle.schedule_laws.proofs.OfNames.LoopRules.{some_same, got_same}
 use Rattle.schedule_laws.proofs.OfNames.BufferRules.{at_named}
 
 -- ---- a view
@@ -90,4 +93,18 @@ inline_names = record {
       subst IsNamedBlock d.made
       (callee_named base c.0 (called c.0.callee) d.of c.2
       (λ q there. each_at IsNamedProcedure s.target.unit.procedures c.0.callee q unit.procedures there));
+}
+
+-- ---- a call in the place of a block
+
+call_named : (k : ℕ) (args : Tried (List Argument)) (made : Block)
+    → then_try args (λ args. Got (next (Call k args) end)) ≡ Got made → IsNamedBlock made
+call_named k (Not cause) made h = cc
+call_named k (Got args) made h = subst IsNamedBlock (got_same h) (tt, tt)
+
+pub replace_names : (k count : ℕ) → IsNaming (replace_rule k count)
+replace_names k count = record {
+  name = λ p h. h;
+  draft = λ s how base made unit proc piece h.
+      call_named k (said k s.target s.opened) made h;
 }

@@ -10,7 +10,7 @@ use Rattle.schedule_laws.proofs.OfNames.ScopeRules.{join_names, lift_names}
 use Rattle.schedule_laws.proofs.OfNames.BufferRules.{memory_names, delete_names, lift_alloc_names}
 use Rattle.schedule_laws.proofs.OfNames.BufferRules.{expand_names, bind_names}
 use Rattle.schedule_laws.proofs.OfNames.StageRule.{stage_names}
-use Rattle.schedule_laws.proofs.OfNames.CallRules.{inline_window_names, inline_names}
+use Rattle.schedule_laws.proofs.OfNames.CallRules.{inline_window_names, inline_names, replace_names}
 use Rattle.schedule_laws.proofs.OfNames.SimplifyRules.{simplify_names}
 use Rattle.schedule_laws.proofs.OfNames.FieldRules.{write_field_names, delete_field_names}
 use Rattle.schedule_laws.proofs.OfNames.FieldRules.{bind_field_names, version_names}
@@ -43,6 +43,7 @@ rules_give_names = record {
   stage = stage_names;
   inline_window = inline_window_names;
   inline = inline_names;
+  replace = replace_names;
   simplify = simplify_names;
   write_field = write_field_names;
   delete_field = delete_field_names;

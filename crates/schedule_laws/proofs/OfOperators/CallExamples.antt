@@ -10,10 +10,12 @@ unfolding digits verdict_on verdict_on_rows round reduced normalized gcd variabl
 calls_instance = record {
   runs = refl;
   no_version = refl;
+  no_match = refl;
   no_view = refl;
   no_gap = refl;
   no_param = refl;
   wrong_kind = refl;
   no_field = refl;
   no_name = refl;
+  no_callee = refl;
 }

@@ -31,6 +31,7 @@ use Rattle.alloc_laws.specs.Stage.Staging.{stage_rule}
 use Rattle.call_laws.specs.Inline.{inline_rule}
 use Rattle.call_laws.specs.InlineWindow.{inline_window_rule}
 use Rattle.unify_laws.specs.Simplify.{simplify_rule}
+use Rattle.unify_laws.specs.Replace.Rule.{replace_rule}
 use Rattle.field_laws.specs.FieldRules as fields
 use Rattle.field_laws.specs.FieldRules.{write_rule, version_rule}
 use Rattle.schedule_calls.specs.declared.operator.CursorOperator.{CursorOperator}
@@ -52,7 +53,7 @@ use Rattle.schedule_laws.specs.Operators.Places.{statement_in, block_in, within_
 use Rattle.schedule_laws.specs.Operators.Arguments.{division_of, control_at, condition_at, part_at}
 use Rattle.schedule_laws.specs.Operators.Arguments.{memory_named, version_named, field_named, number_or}
 use Rattle.schedule_laws.specs.Operators.Arguments.{kind_or, value_at, staging_at}
-use Rattle.schedule_laws.specs.Operators.Calls.{ruled_at, statement_call, procedure_call, absent}
+use Rattle.schedule_laws.specs.Operators.Calls.{ruled_at, statement_call, procedure_call}
 use Rattle.schedule_laws.specs.Operators.Operators.{cursor_call, control_rule, word_call}
 use Rattle.schedule_laws.specs.Operators.Operators.{whole_call, dead_code_rule, change_call, call_of}
 use Rattle.schedule_laws.specs.Operators.Rules.{OfRules, ChangeTakes, Takes}
@@ -97,9 +98,6 @@ module _ (Holds : Rule → Type 0) where
   on_procedure r holds v t cs made h =
       subst (λ (x : Ruled). Holds x.rule) (same_rule (record { rule = r; at = [] }) made h) holds
 
-  of_none : EachRule Holds absent
-  of_none v t cs made h = cc
-
   -- ---- operators
 
   module _ (IsGiven : List ℕ → Type 0) (rules : OfRules Holds IsGiven) where
@@ -131,7 +129,13 @@ module _ (Holds : Rule → Type 0) where
     of_word at word.SetMemory name =
         at_there (λ v t path. memory_rule (number_or (memory_named name v)))
         (λ v t path. rules.memory (number_or (memory_named name v)))
-    of_word at word.Replace name = of_none
+    of_word at word.Replace name =
+        at_place block_in
+        (λ v t piece. record {
+          rule = replace_rule (number_or (version_named name v)) piece.count;
+          at = piece.path;
+        })
+        (λ v t piece. rules.replace (number_or (version_named name v)) piece.count)
     of_word at word.CallEqv name =
         at_there (λ v t path. version_rule (number_or (version_named name v)))
         (λ v t path. rules.version (number_or (version_named name v)))

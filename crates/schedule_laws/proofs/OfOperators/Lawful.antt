@@ -78,6 +78,7 @@ all_name_fields there = record {
   stage = λ count w is s. tt;
   inline_window = λ s. tt;
   inline = λ s. tt;
+  replace = λ k count s. tt;
   simplify = λ s. tt;
   write_field = λ side f e. there (λ t. write_config t.unit.procedures side f e);
   delete_field = there (λ t. delete_config t.unit.procedures);

@@ -1,4 +1,5 @@
--- Schedules that change calls and write configuration fields, and what is refused of such ones.
+-- Schedules that change and make calls and write configuration fields, and what is refused of such
+-- ones.
 use Rattle.std.specs.Prelude.{◌≡◌, ℕ, pos, true, List, [], ◌∷◌, Some, codes, map}
 use Rattle.exo_tree.specs.Tree.{Control, Lit, Size, ControlArg, Whole, Const, Assign, Config}
 use Rattle.exo_tree.specs.Tree.{Call, Block, Statement, end, next, ConfigField, Program}
@@ -8,12 +9,12 @@ use Rattle.place_laws.specs.Scope.UnrollLoop.{only_loop}
 use Rattle.config_laws.specs.FieldRule.{Before, Behind}
 use Rattle.config_laws.specs.Differing.{Origin}
 use Rattle.cursor_patterns.specs.Patterns as pattern
-use Rattle.cursor_forward.specs.Causes.{WrongShape, NotDescendant}
+use Rattle.cursor_forward.specs.Causes.{WrongShape, NotDescendant, NoMatch}
 use Rattle.cursor_forward.specs.Shifts.{at_index, alone, edits_of}
 use Rattle.loop_laws.specs.Shapes.{inside}
 use Rattle.schedule_calls.specs.declared.operator.CursorOperator.TheVariants.{Inline, InlineWindow}
 use Rattle.schedule_calls.specs.declared.operator.CursorOperator.TheVariants.{DeleteConfig}
-use Rattle.schedule_calls.specs.declared.operator.WordOperator.TheVariants.{CallEqv}
+use Rattle.schedule_calls.specs.declared.operator.WordOperator.TheVariants.{Replace, CallEqv}
 use Rattle.schedule_calls.specs.Requests.{Asked, Here, Operation, At, Rename, WithWord}
 use Rattle.schedule_calls.specs.Requests.{WriteConfig, BindConfig, Request, Apply}
 use Rattle.schedule_calls.specs.Requests as request
@@ -58,6 +59,10 @@ unit = record instance.unit {
 abbrev pub the_call : Asked
 the_call = record { source = Here (pattern.Call (Some (codes "g"))) 0; moves = [] }
 
+-- 'x = _'
+abbrev pub the_store : Asked
+the_store = record { source = Here (pattern.Assign (Some (codes "x"))) 0; moves = [] }
+
 abbrev pub gap : Asked
 gap = record the_call { moves = request.Before ∷ [] }
 
@@ -82,7 +87,9 @@ schedule =
     -- s = write_config(p, gap before 'g(_)', Cfg, 'w', '4')
     ∷ Apply (codes "s") (codes "p") (At gap (WriteConfig (codes "Cfg") (codes "w") four))
     -- t = delete_config(s, 'Cfg.w = _')
-    ∷ Apply (codes "t") (codes "s") (alone_at DeleteConfig the_write) ∷ []
+    ∷ Apply (codes "t") (codes "s") (alone_at DeleteConfig the_write)
+    -- u = replace(q, 'x = _', g)
+    ∷ Apply (codes "u") (codes "q") (At the_store (WithWord Replace (codes "g"))) ∷ []
 
 -- for i in seq(0, 2): b
 abbrev pub in_two : Block → Block
@@ -104,6 +111,7 @@ result = record {
         ∷ procedure (codes "f") (in_two (next (calling 4) end))
         ∷ procedure (codes "f")
         (in_two (next (Config 0 (ControlArg (Lit (pos 4)))) (next (calling 0) end)))
+        ∷ procedure (codes "f") (in_two (next (calling 0) end))
         ∷ procedure (codes "f") (in_two (next (calling 0) end)) ∷ [];
     fields = field ∷ [];
   };
@@ -115,7 +123,8 @@ result = record {
       ∷ child_of 0
       ∷ record (differing_child 2) { fields = [] }
       ∷ differing_child 2
-      ∷ record (differing_child 6) { side = Before } ∷ [];
+      ∷ record (differing_child 6) { side = Before }
+      ∷ child_of 3 ∷ [];
   edits =
       unmoved
       ∷ unmoved
@@ -124,7 +133,8 @@ result = record {
       ∷ at_head 0 0 []
       ∷ edits_of (inside 1) 1 1 (alone (at_index 0) (Some (at_index 0)) ∷ [])
       ∷ edits_of (inside 1) 0 1 []
-      ∷ edits_of (inside 1) 1 0 [] ∷ [];
+      ∷ edits_of (inside 1) 1 0 []
+      ∷ edits_of (inside 1) 1 1 [] ∷ [];
   names =
       (codes "g", Version 0)
       ∷ (codes "f", Version 1)
@@ -133,9 +143,10 @@ result = record {
       ∷ (codes "h", Version 4)
       ∷ (codes "r", Version 5)
       ∷ (codes "s", Version 6)
-      ∷ (codes "t", Version 7) ∷ [];
+      ∷ (codes "t", Version 7)
+      ∷ (codes "u", Version 8) ∷ [];
   emitted = [];
-  steps = 6;
+  steps = 7;
   obligations = 1;
 }
 
@@ -150,6 +161,9 @@ pub record CallsInstance : Type 0 where
   pub runs : run_acts (map act_of schedule) (started unit 0) ≡ Done result
   -- f was not made of g
   pub no_version : refused (At the_call (WithWord CallEqv (codes "f"))) (lines.Step NotDescendant)
+  -- a call is no assignment
+  pub no_match :
+      refused (At the_call (WithWord Replace (codes "g"))) (lines.Step (NoMatch (inside 0)))
   -- a call is no view
   pub no_view : refused (alone_at InlineWindow the_call) (lines.Step WrongShape)
   -- no gap, no such parameter
@@ -170,3 +184,4 @@ pub record CallsInstance : Type 0 where
   pub no_field :
       refused (At gap (WriteConfig (codes "Cfg") (codes "v") four)) lines.UnknownName
   pub no_name : refused (At the_call (WithWord CallEqv (codes "k"))) lines.UnknownName
+  pub no_callee : refused (At the_call (WithWord Replace (codes "k"))) lines.UnknownName

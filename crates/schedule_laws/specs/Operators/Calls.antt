@@ -1,5 +1,5 @@
 -- Calls of operators, by what they take: each tells where its rule works.
-use Rattle.std.specs.Prelude.{ℕ, ◌&&◌, Bool, true, false, List, [], ◌∷◌, Option}
+use Rattle.std.specs.Prelude.{ℕ, ◌&&◌, Bool, true, List, [], ◌∷◌, Option}
 use Rattle.std.specs.List.{list_all}
 use Rattle.std.specs.Option.{is_some}
 use Rattle.exo_tree.specs.Tree.{Control, Condition, Argument}
@@ -72,6 +72,12 @@ controls_call at e f r =
 abbrev pub part_call : Asked → ExprPattern → (Form → ℕ → Rule) → Call
 part_call at x r = there_call (λ v. true) at (λ v t path. r (part_at t path x.form) x.nth)
 
+-- at some statements, by the number of what is named and how many they are
+abbrev pub counted_call : (Versions → Option ℕ) → Asked → (ℕ → ℕ → Rule) → Call
+counted_call number at r =
+    place_call (λ v. is_some (number v)) at block_in
+    (λ v t piece. record { rule = r (number_or (number v)) piece.count; at = piece.path })
+
 -- at some statements, by how many they are and what a condition stands for there
 abbrev pub condition_call : Asked → Tree → (ℕ → Condition → Rule) → Call
 condition_call at c r =
@@ -121,13 +127,4 @@ procedure_call r = record {
   named = λ v. true;
   cursors = [];
   rule = λ v t cs. Got (record { rule = r; at = [] });
-}
-
--- of an operator that is not there yet: no line asks it
-abbrev pub absent : Call
-absent = record {
-  formed = λ v. true;
-  named = λ v. false;
-  cursors = [];
-  rule = λ v t cs. Not WrongShape;
 }

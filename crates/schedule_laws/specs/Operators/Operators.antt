@@ -29,6 +29,7 @@ use Rattle.alloc_laws.specs.Stage.Staging.{stage_rule}
 use Rattle.call_laws.specs.Inline.{inline_rule}
 use Rattle.call_laws.specs.InlineWindow.{inline_window_rule}
 use Rattle.unify_laws.specs.Simplify.{simplify_rule}
+use Rattle.unify_laws.specs.Replace.Rule.{replace_rule}
 use Rattle.field_laws.specs.FieldRules as fields
 use Rattle.field_laws.specs.FieldRules.{write_rule, version_rule}
 use Rattle.step_rules.specs.Lawful.{config_side}
@@ -48,11 +49,10 @@ use Rattle.schedule_calls.specs.Requests as request
 use Rattle.schedule_laws.specs.Versions.Lines.{Call, Act, Apply, Search, Moved, Emit}
 use Rattle.schedule_laws.specs.Operators.Arguments.{division_of, memory_named, version_named}
 use Rattle.schedule_laws.specs.Operators.Arguments.{field_named}
-use Rattle.schedule_laws.specs.Operators.Calls.{statement_call, numbered_call, control_call}
-use Rattle.schedule_laws.specs.Operators.Calls.{controls_call, part_call, condition_call}
-use Rattle.schedule_laws.specs.Operators.Calls.{window_call}
-use Rattle.schedule_laws.specs.Operators.Calls.{within_call, gap_call, field_call, procedure_call}
-use Rattle.schedule_laws.specs.Operators.Calls.{absent}
+use Rattle.schedule_laws.specs.Operators.Calls.{statement_call, numbered_call, counted_call}
+use Rattle.schedule_laws.specs.Operators.Calls.{control_call, controls_call, part_call}
+use Rattle.schedule_laws.specs.Operators.Calls.{condition_call, window_call, within_call, gap_call}
+use Rattle.schedule_laws.specs.Operators.Calls.{field_call, procedure_call}
 
 -- ---- operators whose arguments have one form
 
@@ -77,7 +77,7 @@ control_rule control.ShiftLoop = shift_rule
 
 abbrev pub word_call : WordOperator → List ℕ → Asked → Call
 word_call word.SetMemory name at = numbered_call (memory_named name) at memory_rule
-word_call word.Replace name at = absent
+word_call word.Replace name at = counted_call (version_named name) at replace_rule
 word_call word.CallEqv name at = numbered_call (version_named name) at version_rule
 
 abbrev pub whole_call : WholeOperator → Call

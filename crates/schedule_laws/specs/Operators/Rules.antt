@@ -33,6 +33,7 @@ use Rattle.alloc_laws.specs.Stage.Staging.{stage_rule}
 use Rattle.call_laws.specs.Inline.{inline_rule}
 use Rattle.call_laws.specs.InlineWindow.{inline_window_rule}
 use Rattle.unify_laws.specs.Simplify.{simplify_rule}
+use Rattle.unify_laws.specs.Replace.Rule.{replace_rule}
 use Rattle.field_laws.specs.FieldRules as fields
 use Rattle.field_laws.specs.FieldRules.{write_rule, version_rule}
 use Rattle.schedule_calls.specs.Requests.{Change, Alone, WithControl, WithWord, MultLoops}
@@ -70,6 +71,7 @@ pub record OfRules (Holds : Rule → Type 0) (IsGiven : List ℕ → Type 0) : T
   -- calls, and expressions in their normal forms
   pub inline_window : Holds inline_window_rule
   pub inline : Holds inline_rule
+  pub replace : (k count : ℕ) → Holds (replace_rule k count)
   pub simplify : Holds simplify_rule
   -- configuration fields
   pub write_field : (side : config.Side) (f : ℕ) (e : Argument) → Holds (write_rule side f e)

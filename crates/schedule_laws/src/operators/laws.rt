@@ -39,6 +39,7 @@ pub fn operators_are_lawful()
     alloc_laws::stage::laws::stagings_are_lawful();
     call_laws::laws::inlined_windows_are_lawful();
     call_laws::laws::inlined_calls_are_lawful();
+    unify_laws::replace::laws::replacements_are_lawful();
     unify_laws::laws::simplifications_are_lawful();
     field_laws::laws::writes_are_lawful();
     field_laws::laws::deletions_are_lawful();
@@ -86,7 +87,7 @@ pub fn stage_instance()
     ensures { StageInstance }
 {}
 
-/// A schedule that changes calls and writes a field, and refusals of such ones.
+/// A schedule that changes and makes calls and writes a field, and refusals of such ones.
 pub fn calls_instance()
     ensures { CallsInstance }
 {}

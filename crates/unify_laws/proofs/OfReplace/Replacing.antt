@@ -2,7 +2,7 @@
 use Rattle.std.proofs.Common.{◌≡◌, ℕ, zero, ◌+◌, Bool, true, false, ◌&&◌, List, [], ◌∷◌, ◌++◌, map, length}
 use Rattle.std.proofs.Common.{Option, Some, None, if◌then◌else◌, nat_lt, refl, sym, ap, ap₂, ◌∙◌, subst}
 use Rattle.std.proofs.Common.{arith}
-use Rattle.std.specs.Prelude.{slice_get}
+use Rattle.std.specs.Prelude.{not, slice_get}
 use Rattle.std.specs.List.{list_all}
 use Rattle.exo_tree.specs.Tree.{Argument, Param, Call, Block, end, next, joined, Procedure}
 use Rattle.exo_tree.specs.Context.{Context, Here, After, InLoop, InThen, InElse, fill, rest_of}
@@ -33,9 +33,8 @@ use Rattle.step_rules.proofs.Shapes.{or_pass_next}
 use Rattle.call_laws.proofs.OfNames.Copies.{bodies_without_copies}
 use Rattle.unify_laws.specs.Places.{reading_in}
 use Rattle.unify_laws.specs.Simplify.{reading_of}
-use Rattle.unify_laws.specs.Replace.Rule.{is_used_after, hands_wholes, may_share, told, told_there, said}
-use Rattle.unify_laws.specs.Replace.Rule.{param_name, given_in}
-use Rattle.unify_laws.specs.Replace.Rule.{replace_rule}
+use Rattle.unify_laws.specs.Replace.Rule.{is_used_after, hands_wholes, wholes_are_short, may_share}
+use Rattle.unify_laws.specs.Replace.Rule.{told, told_there, said, param_name, given_in, replace_rule}
 use Rattle.unify_laws.proofs.Simplify.{rooted_is}
 use Rattle.unify_laws.proofs.OfReplace.Site.{call_refines}
 
@@ -82,16 +81,20 @@ is_said k t o args h = outer (slice_get t.unit.procedures k) refl h
     inner q e (Said (NoMatch path)) f g = no_got (causes.NoMatch path) args g
     inner q e (Said (Undetermined x)) f g = no_got (causes.Undetermined (param_name q.params x)) args g
     inner q e (Said (Arguments those)) f g =
-        let u = got_unless (hands_wholes (reading_of t) (is_param q) (given_in q.params those) q.body o.piece)
-        WrongShape (if may_share t o k q those then Got those else Not SharedArgument) args g in
-        let same : those ≡ args = got_if (may_share t o k q those) SharedArgument those args u.1 in
+        let given = given_in q.params those in
+        let rest = (if may_share t o k q those then Got those else Not SharedArgument) in
+        let plain = hands_wholes (reading_of t) (is_param q) given q.body o.piece in
+        let u = got_unless (not (wholes_are_short (reading_of t) (is_param q) given q.body o.piece))
+        (Form WideNumber) (if plain then Not WrongShape else rest) args g in
+        let v = got_unless plain WrongShape rest args u.1 in
+        let same : those ≡ args = got_if (may_share t o k q those) SharedArgument those args v.1 in
         record {
           callee = q;
           there = e;
           found = width_law (reading_of t) (names_of t.proc) o.piece q (Arguments those) f
               ∙ ap (λ z. Arguments z) same;
           plain = subst (λ z. hands_wholes (reading_of t) (is_param q) (given_in q.params z) q.body o.piece
-              ≡ false) same u.0;
+              ≡ false) same v.0;
         }
 
     outer : (u : Option Procedure) → slice_get t.unit.procedures k ≡ u

@@ -1,8 +1,8 @@
 -- The rule that puts a call of a procedure in the place of a block that is matched with its body.
-use Rattle.std.specs.Prelude.{ℕ, ◌==◌, Bool, false, not, ◌&&◌, ◌||◌, if◌then◌else◌, List, []}
+use Rattle.std.specs.Prelude.{ℕ, ◌==◌, Bool, true, false, not, ◌&&◌, ◌||◌, if◌then◌else◌, List, []}
 use Rattle.std.specs.Prelude.{◌∷◌, Option, Some, None, slice_get}
-use Rattle.exo_tree.specs.Tree.{Argument, Whole, Window, Param, Statement, If, For, Call, Block}
-use Rattle.exo_tree.specs.Tree.{end, next, Procedure}
+use Rattle.exo_tree.specs.Tree.{Coord, At, Span, Argument, ControlArg, ConditionArg, Whole, Window}
+use Rattle.exo_tree.specs.Tree.{Param, Statement, If, For, Call, Block, end, next, Procedure}
 use Rattle.exo_tree.specs.Context.{rest_of}
 use Rattle.exo_tree.specs.Places.{Path, Opened, opened}
 use Rattle.exo_meaning.specs.Calls.{Callee}
@@ -17,6 +17,7 @@ use Rattle.affine_forms.specs.Forms.{Reading}
 use Rattle.match_laws.specs.Alike.{arguments_alike}
 use Rattle.match_laws.specs.Names.{names_of}
 use Rattle.match_laws.specs.Matched.{Arguments, NoMatch, Undetermined}
+use Rattle.match_laws.specs.Widths.{are_short, conditions_are_short}
 use Rattle.match_laws.specs.Widths.{InWidth, Said, TooWide, matched_in_width}
 use Rattle.step_rules.specs.Rule.{Tried, Got, Not, Target, Piece, Rule, plain_rule}
 use Rattle.step_rules.specs.Answer.{then_try, opened_or_wrong}
@@ -70,6 +71,43 @@ module _ (at : Reading) (params : ℕ → Bool) (given : ℕ → Option Argument
     hands_wholes (next a b) (next c d) = hands_on_in a c || hands_wholes b d
     hands_wholes b d = false
 
+  -- ---- the forms that this asks for
+
+  abbrev pub coords_are_short : List Coord → List Coord → Bool
+  coords_are_short (At a ∷ cs) (At b ∷ ds) = are_short at a b && coords_are_short cs ds
+  coords_are_short (Span a b ∷ cs) (Span c d ∷ ds) =
+      (are_short at a c && are_short at b d) && coords_are_short cs ds
+  coords_are_short cs ds = true
+
+  abbrev pub argument_is_short : Argument → Argument → Bool
+  argument_is_short (ControlArg a) (ControlArg b) = are_short at a b
+  argument_is_short (ConditionArg c) (ConditionArg d) = conditions_are_short at c d
+  argument_is_short (Window x cs) (Window y ds) = coords_are_short cs ds
+  argument_is_short a b = true
+
+  abbrev pub alike_is_short : Option Argument → Argument → Bool
+  alike_is_short None b = true
+  alike_is_short (Some a) b = argument_is_short a b
+
+  abbrev pub hands_on_is_short : Argument → Argument → Bool
+  hands_on_is_short (Whole x) b = not (params x) || alike_is_short (given x) b
+  hands_on_is_short a b = true
+
+  abbrev pub hand_on_is_short : List Argument → List Argument → Bool
+  hand_on_is_short (a ∷ as') (b ∷ bs) = hands_on_is_short a b && hand_on_is_short as' bs
+  hand_on_is_short as' bs = true
+
+  abbrev mutual
+    pub wholes_are_short_in : Statement → Statement → Bool
+    wholes_are_short_in (If c a b) (If r d e) = wholes_are_short a d && wholes_are_short b e
+    wholes_are_short_in (For i lo hi b) (For j l h d) = wholes_are_short b d
+    wholes_are_short_in (Call k as') (Call m bs) = hand_on_is_short as' bs
+    wholes_are_short_in a c = true
+
+    pub wholes_are_short : Block → Block → Bool
+    wholes_are_short (next a b) (next c d) = wholes_are_short_in a c && wholes_are_short b d
+    wholes_are_short b d = true
+
 -- ---- the arguments
 
 -- the arguments may be of one buffer by the rule of calls; k: the number of q
@@ -84,9 +122,12 @@ module _ (t : Target) (o : Opened) (k : ℕ) (q : Procedure) where
   told (Said (NoMatch path)) = Not (causes.NoMatch path)
   told (Said (Undetermined x)) = Not (causes.Undetermined (param_name q.params x))
   told (Said (Arguments args)) =
-      if hands_wholes (reading_of t) (is_param q) (given_in q.params args) q.body o.piece
+      let given = given_in q.params args in
+      if not (wholes_are_short (reading_of t) (is_param q) given q.body o.piece)
+      then Not (Form WideNumber)
+      else (if hands_wholes (reading_of t) (is_param q) given q.body o.piece
       then Not WrongShape
-      else (if may_share args then Got args else Not SharedArgument)
+      else (if may_share args then Got args else Not SharedArgument))
 
   abbrev pub told_there : Tried (List Argument)
   told_there = told (matched_in_width (reading_of t) (names_of t.proc) o.piece q)

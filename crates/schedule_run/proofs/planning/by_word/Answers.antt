@@ -15,3 +15,9 @@ returns-in-CallEqv c =
     of_word (versions c.args.s.now) c.args.on.now.number.0 (procedure c.args.on.now.proc.now)
     c.call_eqv_at.result (plain_asked c.args.at.now) c.args.name.now _ _ c.in-CallEqv.is
     c.call_eqv_at.ensures
+
+pub returns-in-Replace : goal.returns-in-Replace
+returns-in-Replace c =
+    of_word (versions c.args.s.now) c.args.on.now.number.0 (procedure c.args.on.now.proc.now)
+    c.replace_at.result (plain_asked c.args.at.now) c.args.name.now _ _ c.in-Replace.is
+    c.replace_at.ensures

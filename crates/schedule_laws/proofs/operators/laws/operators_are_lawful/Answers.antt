@@ -31,6 +31,7 @@ returns c =
       stage = λ count w is. c.stagings_are_lawful.ensures count w;
       inline_window = c.inlined_windows_are_lawful.ensures;
       inline = c.inlined_calls_are_lawful.ensures;
+      replace = c.replacements_are_lawful.ensures;
       simplify = c.simplifications_are_lawful.ensures;
       write_field = c.writes_are_lawful.ensures;
       delete_field = c.deletions_are_lawful-2.ensures;

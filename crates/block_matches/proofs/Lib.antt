@@ -1,0 +1,11 @@
+pub mod Accesses
+pub mod Agreed
+pub mod Asked
+pub mod Both
+pub mod Choices
+pub mod Cuts
+pub mod MatchedBy
+pub mod Named
+pub mod Outcomes
+pub mod Tables
+pub mod Trials

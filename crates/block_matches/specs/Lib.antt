@@ -1,0 +1,12 @@
+pub mod Choices
+pub mod Held
+pub mod Kept
+pub mod MovedPairs
+pub mod Noted
+pub mod PlainGiven
+pub mod PlainMatched
+pub mod PlainMoving
+pub mod PlainSpot
+pub mod PlainUse
+pub mod Trying
+pub mod Walks

@@ -1,0 +1,76 @@
+//! Binders that correspond.
+ghost use Rattle.std.specs.Prelude.{◌≡◌, None, map, option_map, IfOk, OnOk};
+ghost use Rattle.match_laws.specs.Matched.{partner};
+ghost use Rattle.block_pairs.specs.PlainPair.{plain_pair};
+ghost use Rattle.block_matches.specs.Held.{partners_in};
+ghost use Rattle.block_matches.specs.Noted.{with_first, with_partner, with_partners};
+
+use block_pairs::Pair;
+use exo_tree::Id;
+use indexmap::IndexMap;
+use std::alloc::{AllocError, Global};
+
+/// The block's binder that corresponds to each of the callee's.
+#[derive(Drop)]
+pub(crate) struct Partners {
+    pub(crate) table: IndexMap<u32, u32>,
+}
+
+impl Partners {
+    /// By the first pair of binders.
+    pub(crate) fn of(alloc: Global, pairs: &[Pair<'_>]) -> Result<Partners, AllocError>
+        ensures { IfOk result (λ t. partners_in t ≡ partner (map plain_pair pairs.now)) }
+    {
+        let mut found = Partners::new(alloc);
+        found.note_all(pairs)?;
+        Ok(found)
+    }
+
+    pub(crate) fn get(&self, x: Id) -> Option<Id>
+        ensures { option_map (λ (y : Id). y.0) result ≡ partners_in self.now x.0 }
+    {
+        match self.table.get(&x.0) {
+            Some(y) => Some(Id(*y)),
+            None => None,
+        }
+    }
+
+    fn new(alloc: Global) -> Partners
+        ensures { partners_in result ≡ (λ x. None) }
+    {
+        Partners {
+            table: IndexMap::new(alloc),
+        }
+    }
+
+    /// A partner, where the binder has none.
+    #[tactic(auto, unfolding(crate::specs::Noted::with_first))]
+    fn insert(&mut self, x: Id, y: Id) -> Result<(), AllocError>
+        ensures { OnOk result (partners_in self.new ≡ with_first x.0 y.0 (partners_in self.old)) }
+    {
+        if self.table.get(&x.0).is_none() {
+            self.table.insert(x.0, y.0)?;
+        }
+        Ok(())
+    }
+
+    fn note(&mut self, pair: &Pair<'_>) -> Result<(), AllocError>
+        ensures { OnOk result (partners_in self.new
+            ≡ with_partner (plain_pair pair.now) (partners_in self.old)) }
+    {
+        match pair {
+            Pair::Binders(x, y) => self.insert(*x, *y),
+            _ => Ok(()),
+        }
+    }
+
+    fn note_all(&mut self, pairs: &[Pair<'_>]) -> Result<(), AllocError>
+        ensures { OnOk result (partners_in self.new
+            ≡ with_partners (map plain_pair pairs.now) (partners_in self.old)) }
+    {
+        for pair in pairs {
+            self.note(pair)?;
+        }
+        Ok(())
+    }
+}

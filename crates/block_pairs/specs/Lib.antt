@@ -1,0 +1,4 @@
+pub mod Held
+pub mod PlainBuffer
+pub mod PlainPair
+pub mod Walks

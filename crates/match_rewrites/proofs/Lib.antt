@@ -1,0 +1,4 @@
+pub mod Together
+pub mod Shared
+pub mod Told
+pub mod Unified

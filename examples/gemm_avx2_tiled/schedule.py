@@ -1,0 +1,30 @@
+# Twelve rows of C by 8 columns stand in registers, a panel of B of 256 by 8 cells lies by itself, and k goes in blocks of 256.
+g = rename(gemm, 'gemm_avx2_tiled')
+g = divide_loop(g, 'i', 12, ['io', 'ii'], perfect=True)
+g = divide_loop(g, 'j', 8, ['jo', 'ji'], perfect=True)
+g = divide_loop(g, 'k', 256, ['ko', 'ki'], perfect=True)
+# From io ii jo ji ko ki to jo ko io ki ii ji.
+g = reorder_loops(g, 'ii jo')
+g = reorder_loops(g, 'io jo')
+g = reorder_loops(g, 'ji ko')
+g = reorder_loops(g, 'ii ko')
+g = reorder_loops(g, 'io ko')
+g = reorder_loops(g, 'ji ki')
+g = reorder_loops(g, 'ii ki')
+# The panel of B is copied once for all rows, the tile of C is loaded once for a block of k.
+g = stage_mem(g, 'io', 'B[256 * ko:256 * ko + 256, 8 * jo:8 * jo + 8]', 'b')
+g = stage_mem(g, 'ki', 'C[12 * io:12 * io + 12, 8 * jo:8 * jo + 8]', 'c')
+# A row of the panel is a vector, loaded before the rows of the tile.
+g = stage_mem(g, 'ii', 'b[ki, 0:8]', 'v')
+g = set_memory(g, 'c : _', AVX2)
+g = set_memory(g, 'v : _', AVX2)
+g = replace(g, find(g, 'c[_] = _').parent(), load8)
+g = replace(g, find(g, 'v[_] = _').parent(), load8)
+g = replace(g, find(g, 'c[_] += _').parent(), mac8)
+g = replace(g, find(g, 'C[_] = _').parent(), store8)
+# Each register has a number of its own.
+g = unroll_loop(g, find(g, 'load8(_) #0').parent())
+g = unroll_loop(g, 'ii')
+g = unroll_loop(g, find(g, 'store8(_)').parent())
+g = simplify(g)
+emit(g)
