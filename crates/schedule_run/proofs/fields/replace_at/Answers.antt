@@ -73,7 +73,7 @@ returns-in_err-piece c =
     let e = c.in_err-piece.field-0.0 in
     made_failed plain_proposal
     (planned v k p (counted_call (version_named name) (plain_asked c.args.at.now) replace_rule))
-    c.from_residual-in_err-piece.result e c.from_residual-in_err-piece.ensures.1
+    c.from_residual.result e c.from_residual.ensures.1
     (asked_lost v k p (λ v. is_some (version_named name v)) (plain_asked c.args.at.now) block_in
     (λ v t piece. record {
       rule = replace_rule (number_or (version_named name v)) piece.count;
