@@ -33,3 +33,7 @@ pub drop_at_read : {X Y : Type 0} (f : X → Y) (xs : List X) (ys : List Y) (k :
 drop_at_read f xs ys k x e r h =
     let within : k < length xs = omega (arith, ap length e, length-map xs f) in
     subst (λ zs. drop k zs ≡ f x ∷ drop (k + 1) zs) e (drop_of_map f xs k x within ∙ ap (λ y. f y ∷ drop (k + 1) (map f xs)) (sym r))
+
+-- all of a list
+pub whole_range : (ss : List Statement) (n : ℕ) → n ≡ length ss → slice_range ss 0 (0 + n) ≡ ss
+whole_range ss n h = take_all (0 + n - 0) ss (omega arith)

@@ -1,6 +1,7 @@
 -- A block inside a statement has fewer statements than the block around it.
 use Rattle.std.specs.Prelude.{◌≤◌, List, [], ◌∷◌, map}
-use Rattle.std.proofs.Common.{arith}
+use Rattle.std.proofs.Common.{arith, Global}
+use Rattle.std.specs.declared.rc.Rc.{Rc}
 use denote.Param.Weighed.{most}
 use Rattle.exo_tree.specs.declared.block.Stmt.{Stmt}
 use Rattle.exo_tree.specs.declared.block.Stmt.TheVariants.{Assign, Reduce, Config, Pass, If, For, Alloc, View, Call}
@@ -19,6 +20,6 @@ deep_le-nodes (Alloc b t dims m) = omega arith
 deep_le-nodes (View b x cs) = omega arith
 deep_le-nodes (Call p args) = omega arith
 
-pub depth_le-nodes : (ss : List Stmt) → most deep-Stmt ss ≤ nodes_of (map statement ss)
+pub depth_le-nodes : (rs : List (Rc Stmt Global)) → most (λ r. deep-Stmt r.value) rs ≤ nodes_of (map (λ r. statement r.value) rs)
 depth_le-nodes [] = omega arith
-depth_le-nodes (s ∷ ss) = omega (arith, deep_le-nodes s, depth_le-nodes ss)
+depth_le-nodes (r ∷ rs) = omega (arith, deep_le-nodes r.value, depth_le-nodes rs)

@@ -12,6 +12,7 @@ use crate::list::{Coords, Indices};
 use crate::number::{Cell, FieldId, Id, MemId, ProcId};
 use std::alloc::{AllocError, Global};
 use std::marker::Model;
+use std::rc::Rc;
 
 /// A statement.
 #[cycle(tree)]
@@ -39,7 +40,7 @@ pub enum Stmt {
 #[cycle(tree)]
 #[derive(Drop)]
 pub struct Block {
-    statements: Vec<Stmt>,
+    statements: Vec<Rc<Stmt>>,
 }
 
 impl Model for Block {
@@ -56,7 +57,7 @@ impl Model for Block {
     ghost use Rattle.std.specs.Prelude.{map};
     ghost use Rattle.exo_tree.specs.PlainStatement.{statement};
 
-    ghost view = { λ b. map statement b.statements.items };
+    ghost view = { λ b. map (λ s. statement s.value) b.statements.items };
 
     ghost size = { nodes_of };
 
@@ -87,7 +88,8 @@ impl Block {
         ensures pushed { OnOk result (self.new ≡ self.old ++ statement s ∷ []) }
         ensures unchanged { OnErr result (self.new ≡ self.old) }
     {
-        self.statements.push(s)?;
+        let alloc = *self.statements.allocator();
+        self.statements.push(Rc::new(alloc, s)?)?;
         Ok(())
     }
 
@@ -95,7 +97,10 @@ impl Block {
     pub fn get(&self, k: usize) -> Option<&Stmt>
         ensures { option_map statement (option_copied result) ≡ slice_get self.now k }
     {
-        self.statements.get(k)
+        match self.statements.get(k) {
+            Some(s) => Some(s.as_ref()),
+            None => None,
+        }
     }
 
     /// The statement at an index that is there, before the rest.
@@ -104,13 +109,21 @@ impl Block {
         ensures value { drop k self.now ≡ statement result.now ∷ drop (k + 1) self.now }
         ensures smaller { nodes (statement result.now) ≤ nodes_of self.now }
     {
-        &self.statements[k]
+        self.statements[k].as_ref()
     }
 
-    /// Appends copies of the statements of `part` from `from` up to `to`.
+    /// Puts a statement of another block last.
+    fn share(&mut self, s: &Rc<Stmt>) -> Result<(), AllocError>
+        ensures { OnOk result (self.new ≡ self.old ++ statement s.now.value ∷ []) }
+    {
+        self.statements.push(s.clone()?)?;
+        Ok(())
+    }
+
+    /// Appends the statements of `part` from `from` up to `to`, which both blocks have from then on.
     pub fn append_part(
         &mut self,
-        alloc: Global,
+        _alloc: Global,
         part: &Block,
         from: usize,
         to: usize,
@@ -120,7 +133,7 @@ impl Block {
         ensures { OnOk result (self.new ≡ self.old ++ slice_range part.now from to) }
     {
         for s in &part.statements[from..to] {
-            self.push(s.duplicate(alloc)?)?;
+            self.share(s)?;
         }
         Ok(())
     }

@@ -118,10 +118,11 @@ impl Stmt {
 }
 
 impl Block {
-    #[tactic(auto, using(crate::proofs::Unchanged::same_block))]
+    /// The same statements, which both blocks have from then on.
+    #[tactic(auto, using(crate::proofs::Trees::whole_range))]
     pub fn duplicate(&self, alloc: Global) -> Result<Block, AllocError>
         ensures { IfOk result (λ b. b ≡ self.now) }
     {
-        self.mapped(alloc, &Same)
+        self.piece(alloc, 0, self.len())
     }
 }

@@ -5,6 +5,8 @@ pub mod FreshCallee
 pub mod AtOnce
 pub mod MovedIsPut
 pub mod Known
+pub mod Named
+pub mod Voids
 pub mod Meets
 pub mod MatchLaw
 pub mod ReplaceRule

@@ -33,6 +33,7 @@ use Rattle.match_laws.specs.Inline.Meets.{calls_alike}
 use Rattle.match_laws.specs.Inline.ReplaceRule.{with_block, MayReplace}
 use Rattle.match_laws.proofs.OfInline.FreshCallee.{fresh_conditions}
 use Rattle.match_laws.proofs.OfInline.InlineRule.{inline_rule}
+use Rattle.match_laws.proofs.OfInline.Named.{named_dims}
 use Rattle.match_laws.proofs.OfInline.MatchRows.{each_place, known, none_seen}
 use Rattle.match_laws.proofs.OfInline.ReplaceRule.{replace_rule}
 use Rattle.match_laws.proofs.OfInline.Rows.{named, lit, first, param, loop, fill_it}
@@ -83,6 +84,7 @@ it_may_match = record {
   numbers = refl;
   stand = refl;
   strides = ((refl, refl), (((refl, tt), tt), tt, tt), tt);
+  named = named_dims fresh refl;
   calls = refl;
 }
 
@@ -214,10 +216,10 @@ may_call = fresh_conditions (λ f. Index) [] fill_it [] 20 of_callee
     (inlinable (with_block filler there body) (refl, refl) (refl, refl) (refl, refl))
     (stand_there (with_block filler there body) refl unit body)
 
-fives_read : (s : State) → ReadAlong unit own (nameless fives) s
-fives_read s = each_place unit (nameless fives) s (
-  λ scene. ((known scene, refl), (known scene, refl)),
-  (λ scene. (((known scene, refl), tt), tt), tt, tt),
+fives_read : (s : State) → ReadAlong unit own names (nameless fives) s
+fives_read s = each_place unit names (nameless fives) s (
+  λ scene. (((known scene, refl), (known scene, refl)), tt),
+  (λ scene. ((((known scene, refl), tt), tt), tt), tt, tt),
   tt,
 )
 
@@ -290,10 +292,11 @@ part_may_match = record {
   numbers = refl;
   stand = refl;
   strides = ((refl, ((refl, refl, tt), tt)), tt, tt);
+  named = named_dims rest_filled refl;
   calls = refl;
 }
 
--- ---- w[0:4] within the body against the whole of an x: i32[4] is matched, and told
+-- ---- w[0:4] within the body against the whole of an x: i32[4] is matched, and one
 
 abbrev four : Names
 four = names_of (named (param 11 (TensorParam I32 (lit 4 ∷ []) 0) ∷ []) end)
@@ -311,6 +314,30 @@ all_four = Window 11 (Span (lit 0) (lit 4) ∷ []) ∷ []
 whole_is_matched : matched own four whole_filled window_filled ≡ Arguments all_four
 whole_is_matched = refl
 
-whole_is_told : calls_alike own (puts window_filled.params all_four) window_filled.body whole_filled
+whole_may_match : MayMatch own four whole_filled window_filled all_four (λ x. false)
+whole_may_match = record {
+  kinds = refl;
+  apart = refl;
+  binders = refl;
+  numbers = refl;
+  stand = refl;
+  strides = ((refl, ((refl, refl, tt), tt)), tt, tt);
+  named = named_dims window_filled refl;
+  calls = refl;
+}
+
+-- ---- a tensor t that is handed on against x[0:4] is told: t may have other extents than x
+
+abbrev tensor_filled : Procedure
+tensor_filled = named (param 30 (TensorParam I32 (lit 4 ∷ []) 0) ∷ [])
+    (next (Call 0 (ControlArg (lit 4) ∷ Whole 30 ∷ [])) end)
+
+abbrev front_filled : Block
+front_filled = next (Call 0 (ControlArg (lit 4) ∷ Window 11 (Span (lit 0) (lit 4) ∷ []) ∷ [])) end
+
+front_is_matched : matched own names front_filled tensor_filled ≡ Arguments (Whole 11 ∷ [])
+front_is_matched = refl
+
+front_is_told : calls_alike (puts tensor_filled.params (Whole 11 ∷ [])) tensor_filled.body front_filled
     ≡ false
-whole_is_told = refl
+front_is_told = refl

@@ -14,12 +14,12 @@ use Rattle.meaning_laws.proofs.Parts.{some_injective}
 use Rattle.inplace_laws.specs.Inline.{MayInline}
 use Rattle.inplace_laws.proofs.Above.{above_law}
 use Rattle.match_laws.specs.Inline.Known.{ReadAlong}
-use Rattle.match_laws.specs.Simplify.SimplifiedBlocks.{standing, IsRead}
 use Rattle.match_laws.specs.Names.{Names}
 use Rattle.match_laws.specs.Matched.{Arguments, matched}
-use Rattle.match_laws.proofs.Instances.{own, reads}
+use Rattle.match_laws.proofs.Instances.{own}
 use Rattle.match_laws.proofs.Matched.{same_arguments}
-use Rattle.match_laws.proofs.Single.{each_of_one}
+use Rattle.match_laws.proofs.OfInline.MatchRows.{each_place, known}
+use Rattle.match_laws.proofs.OfInline.Named.{named_dims}
 use Rattle.match_laws.specs.Inline.ReplaceRule.{with_block, MayReplace}
 use Rattle.match_laws.proofs.OfInline.ReplaceRule.{replace_rule}
 use Rattle.match_laws.specs.Inline.InlineRule.{Called, MayInlineThere, with_fresh_ids}
@@ -169,12 +169,9 @@ may_call = inline_conditions (λ f. Index) [] setter [] same_ids (λ x. false)
       rest = refl;
     }) (λ s u good come gs e. tt)
 
-set_is_read : (u : State) → ReadAlong above_it own sets u
-set_is_read u c d t same come = (
-  reads (standing t.scene) t.scene,
-  each_of_one above_it (IsRead own) (Config 0 (ControlArg (Lit (pos 4)))) u refl
-      (λ t. (reads (standing t.scene) t.scene, refl)) c d t same come,
-)
+set_is_read : (u : State) → ReadAlong above_it own no_names sets u
+set_is_read u =
+    each_place above_it no_names sets u (λ scene. ((known scene, refl), tt), tt, tt)
 
 may_replace : (args : List Argument) → Arguments [] ≡ Arguments args
     → MayReplace above_it empty (λ x. false) own no_names setting setter 0 block args (λ x. false)
@@ -190,6 +187,7 @@ may_replace args e =
         numbers = refl;
         stand = refl;
         strides = (refl, tt, tt);
+        named = named_dims setter refl;
         calls = refl;
       };
       read = λ s u good come. (λ x h. absurd (true≢false (sym h)), set_is_read u);

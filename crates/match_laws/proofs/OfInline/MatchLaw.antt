@@ -1,10 +1,10 @@
 -- A matched block does what the callee's body does.
-use Rattle.std.proofs.Common.{◌≡◌, ◌∙◌, ℕ, suc, ℤ, ◌+ℤ◌, ◌==◌, pos, Bool, true, false, ◌&&◌, ◌||◌}
+use Rattle.std.proofs.Common.{◌≡◌, ◌∙◌, ℕ, zero, suc, ℤ, ◌+ℤ◌, ◌==◌, pos, Bool, true, false, ◌&&◌, ◌||◌}
 use Rattle.std.proofs.Common.{if◌then◌else◌, List, [], ◌∷◌, ◌++◌, length, Option, Some, None}
 use Rattle.std.proofs.Common.{IfSome, Ok, refl, sym, ap, ap₂, subst, true≢false}
 use Rattle.std.proofs.Common.{eqb-true, eq-eqb, arith}
 use Rattle.std.specs.Prelude.{nat_lt}
-use Rattle.exo_tree.specs.Tree.{Control, Lit, Var, StrideOf, Add}
+use Rattle.exo_tree.specs.Tree.{Control, Lit, Var, StrideOf, Add, Sub}
 use Rattle.exo_tree.specs.Tree.{Coord, At, Span, Argument, ControlArg, ConditionArg, Whole, Window}
 use Rattle.exo_tree.specs.Tree.{ParamKind, ControlParam, TensorParam, WindowParam, Param}
 use Rattle.exo_tree.specs.Tree.{Block, Procedure}
@@ -21,7 +21,7 @@ use Rattle.inplace_laws.specs.Inline.{inlined, is_view}
 use Rattle.inplace_laws.specs.Windows.{joined_coords, root_in, coords_of}
 use Rattle.match_laws.specs.Simplify.SameControls.{OfCoords}
 use Rattle.match_laws.specs.Simplify.SimplifiedBlocks.{standing, IsRead}
-use Rattle.match_laws.specs.Names.{Names, Buffer, names_of}
+use Rattle.match_laws.specs.Names.{Names, Buffer, names_of, extents_of, whole_of}
 use Rattle.match_laws.specs.Fitting.{SameCoords, IsAffine, OfSpots, IsComposed}
 use Rattle.match_laws.specs.Fitting.{coords_moved}
 use Rattle.match_laws.specs.Moved.{Moving, both, one, moved, moved_condition, agree, simpler}
@@ -30,6 +30,7 @@ use Rattle.match_laws.specs.Pairs.{Pair, Numbers, Truths, Binders, Own, Access, 
 use Rattle.match_laws.specs.Windows.{Use, use_in, uses_of, Spot, Offset, Point, coords_from}
 use Rattle.match_laws.specs.Windows.{window_of, all_moved, are_at_zero, is_at_zero, argument_from}
 use Rattle.match_laws.specs.Windows.{all_of_name, argument_of, fitting, spots, are_free, all_as}
+use Rattle.match_laws.specs.Windows.{if_agree}
 use Rattle.match_laws.specs.Matched.{Known, known_if, known_by, variable_of, flag_of, argument_if}
 use Rattle.match_laws.specs.Matched.{argument_in, partner_if, partner, number_in, truth_in}
 use Rattle.match_laws.specs.Matched.{stride_in, variable_for, stride_for, or_differs}
@@ -44,9 +45,10 @@ use Rattle.inplace_laws.proofs.Along.{along_law}
 use Rattle.match_laws.proofs.ArgumentFits.{argument_fits}
 use Rattle.match_laws.proofs.Fitting.{fitting_law, spotted}
 use Rattle.match_laws.proofs.MatchedFits.{matched_fits}
-use Rattle.match_laws.specs.Inline.AtOnce.{Put, puts, with_put, put_control, put_condition, put_coords}
-use Rattle.match_laws.specs.Inline.AtOnce.{put_window, root_for, suits, all_suit}
-use Rattle.match_laws.specs.Inline.Meets.{Meets, PutsParams}
+use Rattle.match_laws.specs.Inline.AtOnce.{Put, puts, with_put, put_control, put_controls}
+use Rattle.match_laws.specs.Inline.AtOnce.{put_condition, put_coords, put_window, root_for, coords_for}
+use Rattle.match_laws.specs.Inline.AtOnce.{suits, all_suit}
+use Rattle.match_laws.specs.Inline.Meets.{is_window, Meets, PutsParams}
 use Rattle.match_laws.specs.Inline.MovedIsPut.{is_of_kind, are_of_kinds, HasBlockIds, Agrees}
 use Rattle.match_laws.specs.Inline.Known.{strides_of, Sees, ReadsHere}
 use Rattle.match_laws.proofs.OfInline.Known.{wider}
@@ -141,15 +143,11 @@ wide_coords known scene sees (Span a b ∷ cs) h =
     let q = and_parts (is_affine (strides_of known) b) (are_of_known known cs) p.1 in
     (wider known scene sees a p.0, wider known scene sees b q.0, wide_coords known scene sees cs q.1)
 
--- what is read has its numbers where one coordinate is read
-same_here : (at : Reading) (scene : Scene) (cs ds : List Coord)
-    → OfCoords (IsRead at scene) cs → OfCoords (IsRead at scene) ds
-    → (ReadsHere at scene → SameCoords scene cs ds) → SameCoords scene cs ds
-same_here at scene [] [] i j h = tt
-same_here at scene [] (At d ∷ ds) i j h = h j.0.0
-same_here at scene [] (Span d e ∷ ds) i j h = h j.0.0
-same_here at scene (At c ∷ cs) ds i j h = h i.0.0
-same_here at scene (Span c e ∷ cs) ds i j h = h i.0.0
+affine_coords : (at : Reading) (scene : Scene) (cs : List Coord) → OfCoords (IsRead at scene) cs
+    → OfCoords (IsAffine (standing scene)) cs
+affine_coords at scene [] h = tt
+affine_coords at scene (At a ∷ cs) h = (h.0.1, affine_coords at scene cs h.1)
+affine_coords at scene (Span a b ∷ cs) h = (h.0.1, h.1.1, affine_coords at scene cs h.2)
 
 -- ---- coordinates in the block's names
 
@@ -242,6 +240,82 @@ module _ (at : Reading) (m : Moving) (bound : ℕ → Bool) where
         less : {a b : ℕ} → suc a ≡ suc b → a ≡ b
         less e = cc
 
+-- ---- the whole of the parameter has the coordinates of its window
+
+abbrev offsets : List Spot → ℕ
+offsets [] = zero
+offsets (Offset e ∷ ss) = suc (offsets ss)
+offsets (Point g ∷ ss) = offsets ss
+
+module _ (at : Reading) (m : Moving) (bound : ℕ → Bool) where
+  abbrev Counted : Option (List Spot) → ℕ → Type 0
+  Counted o n = IfSome o (λ ss. offsets ss ≡ n)
+
+  offset_counted : (o : Option Control) (g : Control) (p : Option (List Spot)) (n : ℕ) → Counted p n
+      → Counted (both (λ s rest. s ∷ rest) (one (λ f. Offset (Sub g f)) o) p) (suc n)
+  offset_counted None g p n h = tt
+  offset_counted (Some f) g None n h = tt
+  offset_counted (Some f) g (Some ss) n h = ap suc h
+
+  if_counted : (g : Control) (o : Option Control) (p : Option (List Spot)) (n : ℕ) → Counted p n
+      → Counted (if_agree at m bound g o p) n
+  if_counted g None p n h = tt
+  if_counted g (Some f) p n h = go (agree at g f)
+    where
+      go : (t : Bool) → Counted (if t then p else None) n
+      go true = h
+      go false = tt
+
+  point_counted : (g : Control) (p : Option (List Spot)) (n : ℕ) → Counted p n
+      → Counted (one (λ rest. Point g ∷ rest) p) n
+  point_counted g None n h = tt
+  point_counted g (Some ss) n h = h
+
+  counted : (listed : List Bool) (cs gs : List Coord)
+      → Counted (spots at m bound listed cs gs) (length cs)
+  counted [] [] [] = refl
+  counted (true ∷ listed) (At e ∷ cs) (At g ∷ gs) =
+      offset_counted (moved m e) g (spots at m bound listed cs gs) (length cs) (counted listed cs gs)
+  counted (true ∷ listed) (Span e f ∷ cs) (Span g h ∷ gs) =
+      if_counted (Sub h g) (moved m (Sub f e))
+      (both (λ s rest. s ∷ rest) (one (λ k. Offset (Sub g k)) (moved m e)) (spots at m bound listed cs gs))
+      (suc (length cs))
+      (offset_counted (moved m e) g (spots at m bound listed cs gs) (length cs) (counted listed cs gs))
+  counted (false ∷ listed) cs (At g ∷ gs) =
+      point_counted g (spots at m bound listed cs gs) (length cs) (counted listed cs gs)
+  counted listed cs gs = tt
+
+  module _ (scene : Scene) (reads : ReadsHere at scene) where
+    plus_zero : (n : ℤ) → n +ℤ pos 0 ≡ n
+    plus_zero n = omega (arith, ints)
+
+    unlike : {a : ℕ} → zero ≡ suc a → ⊥
+    unlike e = cc
+
+    one_less : {a b : ℕ} → suc a ≡ suc b → a ≡ b
+    one_less e = cc
+
+    own_coords : (ss : List Spot) (ds : List Control) → offsets ss ≡ length ds
+        → OfCoords (IsAffine (standing scene)) (whole_of ds)
+        → OfCoords (IsAffine (standing scene)) (coords_from at m bound ss ds)
+        → SameCoords scene (joined_coords (coords_from at m bound ss ds) (whole_of ds))
+        (coords_from at m bound ss ds)
+    own_coords [] [] n i j = tt
+    own_coords [] (d ∷ ds) n i j = absurd (unlike n)
+    own_coords (Point g ∷ ss) ds n i j = (refl, own_coords ss ds n i j.1)
+    own_coords (Offset e ∷ ss) [] n i j = absurd (unlike (sym n))
+    own_coords (Offset e ∷ ss) (d ∷ ds) n i j = (
+      plus_zero (number scene (simpler at e)),
+      sym (simpler_law (standing scene) at scene (Add (simpler at e) d) reads (ap₂ ◌&&◌ j.0 i.1)),
+      own_coords ss ds (one_less n) i.2 j.2,
+    )
+
+put_whole : (put : Put) (dims : List Control)
+    → put_coords put (whole_of dims) ≡ whole_of (put_controls put dims)
+put_whole put [] = refl
+put_whole put (d ∷ dims) =
+    ap (λ r. Span (Lit (pos 0)) (put_control put d) ∷ r) (put_whole put dims)
+
 put_length : (put : Put) (cs : List Coord) → length (put_coords put cs) ≡ length cs
 put_length put [] = refl
 put_length put (At e ∷ cs) = ap suc (put_length put cs)
@@ -254,17 +328,37 @@ use_stands known m dims u =
     (length dims == length u.ours)
     && (are_moved_of_known known (coords_moved m u.ours) && are_of_known known u.theirs)
 
-abbrev UseMeets : Reading → (ℕ → Bool) → Put → ℕ → Use → Type 0
-UseMeets at known put x u =
+abbrev UseMeets : Reading → (ℕ → Bool) → Put → ℕ → List Control → Use → Type 0
+UseMeets at known put x dims u =
     (root_for put x ≡ u.name)
     × ((scene : Scene)
     → Sees known scene
-    → OfCoords (IsRead at scene) (put_window put x u.ours)
-    → OfCoords (IsRead at scene) u.theirs
+    → ReadsHere at scene
     → SameCoords scene (put_window put x u.ours) u.theirs)
+    × ((scene : Scene)
+    → Sees known scene
+    → ReadsHere at scene
+    → u.ours ≡ whole_of dims
+    → is_window (put.name x) ≡ true
+    → OfCoords (IsRead at scene) (coords_for put x)
+    → SameCoords scene (put_window put x u.ours) (coords_for put x))
 
 module _ (at : Reading) (known : ℕ → Bool) (m : Moving) (bound : ℕ → Bool) (put : Put)
     (controls : (e : Control) → IfSome (moved m e) (λ f. f ≡ put_control put e)) where
+  moved_put : (dims ds : List Control) → all_moved at m bound dims ≡ Some ds
+      → ds ≡ put_controls put dims
+  moved_put [] ds h = sym (some_injective [] ds h)
+  moved_put (d ∷ dims) ds h =
+      go (moved m d) (all_moved at m bound dims) (controls d) (λ es e. moved_put dims es e) h
+    where
+      go : (o : Option Control) (r : Option (List Control)) → IfSome o (λ f. f ≡ put_control put d)
+          → ((es : List Control) → r ≡ Some es → es ≡ put_controls put dims)
+          → both (λ e es. e ∷ es) o r ≡ Some ds → ds ≡ put_controls put (d ∷ dims)
+      go None r i rest k = absurd (none_some k)
+      go (Some c) None i rest k = absurd (none_some k)
+      go (Some c) (Some es) i rest k =
+          sym (some_injective (c ∷ es) ds k) ∙ ap₂ ◌∷◌ i (rest es refl)
+
   names_one : (y : ℕ) (us : List Use) → all_of_name at m bound y us ≡ true
       → Each (λ u. u.name ≡ y) us
   names_one y [] h = tt
@@ -309,18 +403,24 @@ module _ (at : Reading) (known : ℕ → Bool) (m : Moving) (bound : ℕ → Boo
       go (Some cs) i j = i (wide_coords known scene sees cs j) (wide_coords known scene sees u.theirs k)
 
   -- the access on the argument
-  abbrev OnArgument : ℕ → ℕ → Use → Argument → Type 0
-  OnArgument x y u a =
+  abbrev OnArgument : ℕ → ℕ → List Control → Use → Argument → Type 0
+  OnArgument x y dims u a =
       (root_in a x ≡ y)
       × ((scene : Scene) → Sees known scene → ReadsHere at scene
       → SameCoords scene (joined_coords (coords_of a) (put_coords put u.ours)) u.theirs)
+      × ((scene : Scene) → Sees known scene → ReadsHere at scene → u.ours ≡ whole_of dims
+      → is_window a ≡ true → OfCoords (IsRead at scene) (coords_of a)
+      → SameCoords scene (joined_coords (coords_of a) (put_coords put u.ours)) (coords_of a))
 
-  on_window : (x y : ℕ) (u : Use) (cs : List Coord)
+  on_window : (x y : ℕ) (dims : List Control) (u : Use) (cs : List Coord)
       → ((scene : Scene) → Sees known scene → ReadsHere at scene
       → SameCoords scene (joined_coords cs (put_coords put u.ours)) u.theirs)
-      → OnArgument x y u (window_of at m bound y cs)
-  on_window x y u [] h = (refl, h)
-  on_window x y u (c ∷ cs) h = (refl, h)
+      → ((scene : Scene) → Sees known scene → ReadsHere at scene → u.ours ≡ whole_of dims
+      → OfCoords (IsRead at scene) cs
+      → SameCoords scene (joined_coords cs (put_coords put u.ours)) cs)
+      → OnArgument x y dims u (window_of at m bound y cs)
+  on_window x y dims u [] h k = (refl, h, λ scene sees reads whole w j. no w)
+  on_window x y dims u (c ∷ cs) h k = (refl, h, λ scene sees reads whole w j. k scene sees reads whole j)
 
   by_argument : (P : Argument → Type 0) (whole : Bool) (b : Buffer) (y : ℕ) (ds : List Control)
       (ss : List Spot) (a : Argument)
@@ -341,34 +441,56 @@ module _ (at : Reading) (known : ℕ → Bool) (m : Moving) (bound : ℕ → Boo
 
   one_use : (x y : ℕ) (u : Use) (a : Argument) (whole : Bool) (b : Buffer)
       (dims ds : List Control) (ss : List Spot) → use_stands known m dims u ≡ true → u.name ≡ y
-      → length ds ≡ length dims
+      → all_moved at m bound dims ≡ Some ds → offsets ss ≡ length ds
       → ((scene : Scene) → Sees known scene → ReadsHere at scene → OfSpots (IsAffine (standing scene)) ss)
       → ((scene : Scene) → Sees known scene → ReadsHere at scene
       → IsComposed (standing scene) m scene (length ds) (coords_from at m bound ss ds) u)
       → argument_from at m bound whole b y ds ss ≡ Some a → put.name x ≡ a
-      → UseMeets at known put x u
-  one_use x y u a whole b dims ds ss st name len affine composed from is =
+      → UseMeets at known put x dims u
+  one_use x y u a whole b dims ds ss st name moves count affine composed from is =
       let p = and_parts (length dims == length u.ours)
       (are_moved_of_known known (coords_moved m u.ours) && are_of_known known u.theirs) st in
       let q = and_parts (are_moved_of_known known (coords_moved m u.ours))
       (are_of_known known u.theirs) p.1 in
-      let rank = len ∙ eqb-true (length dims) (length u.ours) p.0 in
-      let on = by_argument (OnArgument x y u) whole b y ds ss a
-      (on_window x y u (coords_from at m bound ss ds) (λ scene sees reads. core q.0 q.1 (sym rank)
-      scene sees (composed scene sees reads)))
+      let rank = moved_length at m bound dims ds moves ∙ eqb-true (length dims) (length u.ours) p.0 in
+      let on = by_argument (OnArgument x y dims u) whole b y ds ss a
+      (on_window x y dims u (coords_from at m bound ss ds) (λ scene sees reads. core q.0 q.1 (sym rank)
+      scene sees (composed scene sees reads)) (own q.0))
       (λ zero. (
         refl,
         λ scene sees reads. whole_coords at m bound scene reads ss ds
             (put_coords put u.ours) u.theirs zero (affine scene sees reads)
             (put_length put u.ours ∙ sym rank)
             (core q.0 q.1 (sym rank) scene sees (composed scene sees reads)),
+        λ scene sees reads whole w j. no w,
       )) from in
-      let there = subst (OnArgument x y u) (sym is) on in (
-        there.0 ∙ sym name,
-        λ scene sees i j.
-            same_here at scene (put_window put x u.ours) u.theirs i j (there.1 scene sees),
-      )
+      let there = subst (OnArgument x y dims u) (sym is) on in
+      (there.0 ∙ sym name, there.1, there.2)
     where
+      own : are_moved_of_known known (coords_moved m u.ours) ≡ true → (scene : Scene)
+          → Sees known scene → ReadsHere at scene → u.ours ≡ whole_of dims
+          → OfCoords (IsRead at scene) (coords_from at m bound ss ds)
+          → SameCoords scene (joined_coords (coords_from at m bound ss ds) (put_coords put u.ours))
+          (coords_from at m bound ss ds)
+      own moves_known scene sees reads is_whole j =
+          subst (λ r. SameCoords scene (joined_coords (coords_from at m bound ss ds) r)
+          (coords_from at m bound ss ds)) (sym same)
+          (own_coords at m bound scene reads ss ds count
+          (subst (λ r. OfCoords (IsAffine (standing scene)) r) same
+          (go (coords_moved m u.ours) moves_known (coords_are m put controls u.ours)))
+          (affine_coords at scene (coords_from at m bound ss ds) j))
+        where
+          same : put_coords put u.ours ≡ whole_of ds
+          same = ap (put_coords put) is_whole ∙ put_whole put dims
+              ∙ ap whole_of (sym (moved_put dims ds moves))
+
+          go : (o : Option (List Coord)) → are_moved_of_known known o ≡ true
+              → IfSome o (λ cs. cs ≡ put_coords put u.ours)
+              → OfCoords (IsAffine (standing scene)) (put_coords put u.ours)
+          go None k i = no k
+          go (Some cs) k i =
+              subst (λ r. OfCoords (IsAffine (standing scene)) r) i (wide_coords known scene sees cs k)
+
       core : are_moved_of_known known (coords_moved m u.ours) ≡ true
           → are_of_known known u.theirs ≡ true → length u.ours ≡ length ds → (scene : Scene) → Sees known scene
           → IsComposed (standing scene) m scene (length ds) (coords_from at m bound ss ds) u
@@ -392,24 +514,25 @@ module _ (at : Reading) (known : ℕ → Bool) (m : Moving) (bound : ℕ → Boo
 
   uses_meet : (x y : ℕ) (us : List Use) (a : Argument) (whole : Bool) (b : Buffer)
       (dims ds : List Control) (ss : List Spot) → Each (λ u. use_stands known m dims u ≡ true) us
-      → Each (λ u. u.name ≡ y) us → length ds ≡ length dims
+      → Each (λ u. u.name ≡ y) us → all_moved at m bound dims ≡ Some ds → offsets ss ≡ length ds
       → ((scene : Scene) → Sees known scene → ReadsHere at scene → OfSpots (IsAffine (standing scene)) ss)
       → ((scene : Scene) → Sees known scene → ReadsHere at scene
       → Each (IsComposed (standing scene) m scene (length ds) (coords_from at m bound ss ds)) us)
       → argument_from at m bound whole b y ds ss ≡ Some a → put.name x ≡ a
-      → Each (UseMeets at known put x) us
-  uses_meet x y [] a whole b dims ds ss st name len affine composed from is = tt
-  uses_meet x y (u ∷ us) a whole b dims ds ss st name len affine composed from is = (
-    one_use x y u a whole b dims ds ss st.0 name.0 len affine
+      → Each (UseMeets at known put x dims) us
+  uses_meet x y [] a whole b dims ds ss st name moves count affine composed from is = tt
+  uses_meet x y (u ∷ us) a whole b dims ds ss st name moves count affine composed from is = (
+    one_use x y u a whole b dims ds ss st.0 name.0 moves count affine
         (λ scene sees reads. (composed scene sees reads).0) from is,
-    uses_meet x y us a whole b dims ds ss st.1 name.1 len affine
+    uses_meet x y us a whole b dims ds ss st.1 name.1 moves count affine
         (λ scene sees reads. (composed scene sees reads).1) from is,
   )
 
   fitting_meets : (x : ℕ) (whole : Bool) (dims : List Control) (theirs : Names)
       (uses : List Use) (a : Argument)
       → IsFitting at m bound whole dims theirs uses a → put.name x ≡ a
-      → Each (λ u. use_stands known m dims u ≡ true) uses → Each (UseMeets at known put x) uses
+      → Each (λ u. use_stands known m dims u ≡ true) uses
+      → Each (UseMeets at known put x dims) uses
   fitting_meets x whole dims theirs uses a f is st =
       let all = subst (Each (λ u. use_stands known m dims u ≡ true)) f.uses_are st in
       let p = and_parts (length dims == length f.first.ours)
@@ -417,14 +540,18 @@ module _ (at : Reading) (known : ℕ → Bool) (m : Moving) (bound : ℕ → Boo
       all.0 in
       let q = and_parts (are_moved_of_known known (coords_moved m f.first.ours))
       (are_of_known known f.first.theirs) p.1 in
+      let spotted_so = fitting_spots f.listed f.first f.others f.spots f.fits in
       let affine : (scene : Scene) → Sees known scene → ReadsHere at scene
       → OfSpots (IsAffine (standing scene)) f.spots
-      = λ scene sees reads. spots_affine scene sees reads f.listed f.first f.spots
-      (fitting_spots f.listed f.first f.others f.spots f.fits) q.0 q.1 in
-      subst (Each (UseMeets at known put x)) (sym f.uses_are)
+      = λ scene sees reads. spots_affine scene sees reads f.listed f.first f.spots spotted_so q.0 q.1 in
+      let count : offsets f.spots ≡ length f.dimensions
+      = subst (λ o. IfSome o (λ ss. offsets ss ≡ length f.first.ours)) spotted_so
+      (counted at m bound f.listed f.first.ours f.first.theirs)
+      ∙ sym (eqb-true (length dims) (length f.first.ours) p.0)
+      ∙ sym (moved_length at m bound dims f.dimensions f.dimensions_are) in
+      subst (Each (UseMeets at known put x dims)) (sym f.uses_are)
       (uses_meet x f.first.name (f.first ∷ f.others) a whole f.buffer dims f.dimensions f.spots
-      all (refl, names_one f.first.name f.others f.one_name)
-      (moved_length at m bound dims f.dimensions f.dimensions_are) affine
+      all (refl, names_one f.first.name f.others f.one_name) f.dimensions_are count affine
       (λ scene sees reads. fitting_law (standing scene) at m bound scene f.listed f.first f.others
       f.spots f.dimensions f.fits reads (affine scene sees reads)) f.argument is)
 
@@ -662,7 +789,9 @@ known_has : {A : Type 0} (P : Type 0) (o : Option A) → is_known o ≡ true →
 known_has P None h k = no h
 known_has P (Some a) h k = k
 
-module _ (at : Reading) (known : ℕ → Bool) (by m : Moving) (put : Put) (ps : List Param) where
+module _ (at : Reading) (known : ℕ → Bool) (by m : Moving) (put : Put) (ps : List Param)
+    (ours : Names)
+    (named : (x : ℕ) (dims : List Control) → dims_of ps x ≡ Some dims → extents_of (ours x) ≡ dims) where
   abbrev StandUses : List Pair → Type 0
   StandUses pairs =
       (x : ℕ) (dims : List Control) → dims_of ps x ≡ Some dims
@@ -708,11 +837,11 @@ module _ (at : Reading) (known : ℕ → Bool) (by m : Moving) (put : Put) (ps :
   abbrev UsesMeet : List Pair → Type 0
   UsesMeet pairs =
       (x : ℕ) (dims : List Control) → dims_of ps x ≡ Some dims
-      → Each (UseMeets at known put x) (uses_of x pairs)
+      → Each (UseMeets at known put x dims) (uses_of x pairs)
 
   pair_meets : (a : Pair) → Agrees at m put a → stands known by m ps a ≡ true → has_one_id a ≡ true
       → ((x : ℕ) (dims : List Control) → dims_of ps x ≡ Some dims
-      → Each (UseMeets at known put x) (use_in x a)) → Meets at known put a
+      → Each (UseMeets at known put x dims) (use_in x a)) → Meets at known put ours a
   pair_meets (Numbers p whole e g) h i j u =
       known_has (agree at (put_control put e) g ≡ true) (moved m e) i h
   pair_meets (Truths p whole c d) h i j u =
@@ -726,28 +855,34 @@ module _ (at : Reading) (known : ℕ → Bool) (by m : Moving) (put : Put) (ps :
       this : Use
       this = record { path = p; ours = cs; name = y; theirs = ds }
 
-      it : (t : Bool) → t ≡ true → Each (UseMeets at known put x) (if t then this ∷ [] else [])
-          → UseMeets at known put x this
-      it true e k = k.0
-      it false e k = no e
+      it : (dims : List Control) (t : Bool) → t ≡ true
+          → Each (UseMeets at known put x dims) (if t then this ∷ [] else [])
+          → UseMeets at known put x dims this
+      it dims true e k = k.0
+      it dims false e k = no e
 
       go : (o : Option (List Control)) → dims_of ps x ≡ o → has_length (length cs) o ≡ true
-          → UseMeets at known put x this
+          → Meets at known put ours (Access p x cs y ds)
       go None e k = no k
-      go (Some dims) e k = it (x == x) (eq-eqb x x refl) (u x dims e)
+      go (Some dims) e k =
+          let m = it dims (x == x) (eq-eqb x x refl) (u x dims e) in (
+            m.0,
+            m.1,
+            λ scene sees reads whole. m.2 scene sees reads (whole ∙ ap whole_of (named x dims e)),
+          )
   pair_meets (Unlike p) h i j u = h
 
   pairs_meet : (pairs : List Pair) → Each (Agrees at m put) pairs
       → all_stand known by m ps pairs ≡ true → have_one_id pairs ≡ true → UsesMeet pairs
-      → Each (Meets at known put) pairs
+      → Each (Meets at known put ours) pairs
   pairs_meet [] h i j u = tt
   pairs_meet (a ∷ pairs) h i j u =
       let p = and_parts (stands known by m ps a) (all_stand known by m ps pairs) i in
       let q = and_parts (has_one_id a) (have_one_id pairs) j in (
         pair_meets a h.0 p.0 q.0 (λ x dims e.
-            (each_split (UseMeets at known put x) (use_in x a) (uses_of x pairs) (u x dims e)).0),
+            (each_split (UseMeets at known put x dims) (use_in x a) (uses_of x pairs) (u x dims e)).0),
         pairs_meet pairs h.1 p.1 q.1 (λ x dims e.
-            (each_split (UseMeets at known put x) (use_in x a) (uses_of x pairs) (u x dims e)).1),
+            (each_split (UseMeets at known put x dims) (use_in x a) (uses_of x pairs) (u x dims e)).1),
       )
 
 -- ---- the law
@@ -768,7 +903,7 @@ module _ (at : Reading) (theirs : Names) (block : Block) (q : Procedure) (args :
   it = matched_fits at theirs block q args found_it
 
   those_uses : UsesMeet at known (by_walk at theirs block q) (given_names at theirs block q args)
-      argument_put q.params those
+      argument_put q.params (names_of q) may.named those
   those_uses x dims e =
       let g = buffer_given at theirs block q q.params args x dims it.given e in
       let uses = uses_of x (walk at theirs block q) in
@@ -778,18 +913,18 @@ module _ (at : Reading) (theirs : Names) (block : Block) (q : Procedure) (args :
       let fit = argument_fits at (by_walk at theirs block q) (has_binder block) whole dims theirs
       uses g.1 some in
       let here = stand_uses at known (by_walk at theirs block q) (given_names at theirs block q args)
-      argument_put q.params those may.stand x dims e in
-      subst (λ pairs. Each (UseMeets at known argument_put x) (uses_of x pairs)) it.walked
+      argument_put q.params (names_of q) may.named those may.stand x dims e in
+      subst (λ pairs. Each (UseMeets at known argument_put x dims) (uses_of x pairs)) it.walked
       (fitting_meets at known (by_walk at theirs block q) (has_binder block) argument_put
       (walk_is_put at theirs block q args it.given may.kinds may.numbers block_ids)
       x whole dims theirs uses g.1 fit g.3
       (subst (λ pairs. Each (λ u. use_stands known (by_walk at theirs block q) dims u ≡ true)
       (uses_of x pairs)) (sym it.walked) here))
 
-  those_meet : Each (Meets at known argument_put) those
+  those_meet : Each (Meets at known argument_put (names_of q)) those
   those_meet =
       pairs_meet at known (by_walk at theirs block q) (given_names at theirs block q args) argument_put
-      q.params those (matched_agrees at theirs block q args found_it block_ids may.kinds)
+      q.params (names_of q) may.named those (matched_agrees at theirs block q args found_it block_ids may.kinds)
       may.stand may.binders those_uses
 
   puts_params : PutsParams (params at theirs block q) argument_put

@@ -13,7 +13,8 @@ use Rattle.match_laws.specs.Simplify.SameControls.{OfStatement}
 use Rattle.match_laws.specs.Simplify.SimplifiedBlocks.{standing, IsRead}
 use Rattle.match_laws.specs.Alike.{nameless}
 use Rattle.match_laws.proofs.Instances.{own, loaded, product, reads, rows, world}
-use Rattle.match_laws.specs.Inline.Known.{Sees, ReadAlong}
+use Rattle.match_laws.specs.Names.{Names}
+use Rattle.match_laws.specs.Inline.Known.{Sees, CallHas, ReadAlong}
 use Rattle.match_laws.proofs.OfInline.MatchLaw.{match_law, match_runs}
 use Rattle.match_laws.proofs.OfInline.ReplaceRows.{load, copy_here, inlined_load, load_is_matched}
 use Rattle.match_laws.proofs.OfInline.ReplaceRows.{load_may_match, row_loop, row_here, row_arguments}
@@ -45,18 +46,19 @@ module _ (P : Statement → Type 0) where
   in_hole (InThen t c other rest) d h = in_hole c d h.1.0
   in_hole (InElse t other c rest) d h = in_hole c d h.1.1
 
-abbrev pub Everywhere : Block → Type 0
-Everywhere = OfAll (λ a. (scene : Scene) → OfStatement (IsRead own scene) a)
+abbrev pub Everywhere : Names → Block → Type 0
+Everywhere names =
+    OfAll (λ a. (scene : Scene) → OfStatement (IsRead own scene) a × CallHas names scene a)
 
 pub known : (scene : Scene) → ReadsAt (standing scene) (values_in scene) own scene
 known scene = reads (standing scene) scene
 
-pub each_place : (w : World) (b : Block) (s : State) → Everywhere b → ReadAlong w own b s
-each_place w b s h c d u same come = (
-  known u.scene,
-  in_hole (λ a. (scene : Scene) → OfStatement (IsRead own scene) a) c d (subst Everywhere same h)
-      u.scene,
-)
+pub each_place : (w : World) (names : Names) (b : Block) (s : State) → Everywhere names b
+    → ReadAlong w own names b s
+each_place w names b s h c d u same come =
+    let it = in_hole (λ a. (scene : Scene) → OfStatement (IsRead own scene) a × CallHas names scene a)
+    c d (subst (Everywhere names) same h) u.scene in
+    ((known u.scene, it.0), it.1)
 
 -- no names need to be known
 pub none_seen : (scene : Scene) → Sees (λ x. false) scene
@@ -64,11 +66,11 @@ none_seen scene x h = absurd (true≢false (sym h))
 
 -- ---- the load
 
-load_read : (s : State) → ReadAlong world own (nameless load) s
-load_read s = each_place world (nameless load) s (
-  λ scene. ((known scene, refl), (known scene, refl)),
+load_read : (s : State) → ReadAlong world own product (nameless load) s
+load_read s = each_place world product (nameless load) s (
+  λ scene. (((known scene, refl), (known scene, refl)), tt),
   (
-    λ scene. (((known scene, refl), tt), ((known scene, refl), ((known scene, refl), tt))),
+    λ scene. ((((known scene, refl), tt), ((known scene, refl), ((known scene, refl), tt))), tt),
     tt,
     tt,
   ),
@@ -83,11 +85,11 @@ load_is_the_copy s =
 
 -- ---- the row, copied by a callee with a control parameter and two windows
 
-row_read : (s : State) → ReadAlong world own (nameless row_loop) s
-row_read s = each_place world (nameless row_loop) s (
-  λ scene. ((known scene, refl), (known scene, refl)),
+row_read : (s : State) → ReadAlong world own rows (nameless row_loop) s
+row_read s = each_place world rows (nameless row_loop) s (
+  λ scene. (((known scene, refl), (known scene, refl)), tt),
   (
-    λ scene. (((known scene, refl), ((known scene, refl), tt)), ((known scene, refl), tt)),
+    λ scene. ((((known scene, refl), ((known scene, refl), tt)), ((known scene, refl), tt)), tt),
     tt,
     tt,
   ),

@@ -19,6 +19,7 @@ use Rattle.match_laws.specs.Inline.MovedIsPut.{Agrees, HasBlockIds}
 use Rattle.match_laws.proofs.OfInline.MovedIsPut.{moved_is_put, matched_agrees}
 use Rattle.match_laws.specs.Inline.AtOnce.{puts, put_block, put_control}
 use Rattle.match_laws.specs.Inline.MatchLaw.{MayMatch}
+use Rattle.match_laws.proofs.OfInline.Named.{named_dims}
 use Rattle.match_laws.specs.Matched.{Arguments, matched}
 use Rattle.match_laws.specs.Inline.InlineRule.{renumbered}
 use Rattle.match_laws.specs.Inline.ReplaceRule.{AtPath, OfParam, Shared, replace_piece, replace_draft}
@@ -196,6 +197,7 @@ load_may_match = record {
   numbers = refl;
   stand = refl;
   strides = ((refl, refl), (((refl, tt), (refl, (refl, tt))), tt, tt), tt);
+  named = named_dims copy_here refl;
   calls = refl;
 }
 
@@ -213,5 +215,6 @@ row_may_match = record {
   numbers = refl;
   stand = refl;
   strides = ((refl, refl), (((refl, (refl, tt)), (refl, tt)), tt, tt), tt);
+  named = named_dims row_here refl;
   calls = refl;
 }

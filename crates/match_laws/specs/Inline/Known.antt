@@ -1,15 +1,18 @@
 -- Blocks that read no strides but those of known names and of names that they bind before.
-use Rattle.std.specs.Prelude.{◌≡◌, ℕ, Bool, true, ◌||◌, ⊤}
-use Rattle.exo_tree.specs.Tree.{Control, Statement, Assign, Reduce, Config, Pass, If, For, Alloc}
+use Rattle.std.specs.Prelude.{◌≡◌, ℕ, Bool, true, ◌||◌, Some, ⊤}
+use Rattle.exo_tree.specs.Tree.{Control, Argument, Whole}
+use Rattle.exo_tree.specs.Tree.{Statement, Assign, Reduce, Config, Pass, If, For, Alloc}
 use Rattle.exo_tree.specs.Tree.{View, Call, Block, end, next}
 use Rattle.exo_tree.specs.Context.{Context, fill}
-use Rattle.exo_meaning.specs.Scene.{Scene}
+use Rattle.exo_meaning.specs.Orders.{Each}
+use Rattle.exo_meaning.specs.Scene.{Seen, Scene, numbers, extents}
 use Rattle.exo_meaning.specs.State.{State}
 use Rattle.exo_meaning.specs.Run.{World}
 use Rattle.meaning_laws.specs.Context.{ComesTo}
 use Rattle.meaning_laws.specs.Sound.{binds}
 use Rattle.affine_forms.specs.Forms.{Reading, Allowed, is_affine}
 use Rattle.affine_forms.specs.Laws.{ReadsAt}
+use Rattle.match_laws.specs.Names.{Names, extents_of}
 use Rattle.match_laws.specs.Simplify.Simplified.{values_in}
 use Rattle.match_laws.specs.Simplify.SameControls.{OfStatement}
 use Rattle.match_laws.specs.Simplify.SimplifiedBlocks.{is_seen, standing, IsRead}
@@ -59,10 +62,29 @@ ReadsHere at scene = ReadsAt (standing scene) (values_in scene) at scene
 abbrev pub IsReadIn : Reading → Scene → Statement → Type 0
 IsReadIn at scene a = ReadsHere at scene × OfStatement (IsRead at scene) a
 
+-- the extents of a name in the table have the numbers of what it sees
+abbrev pub HasExtents : Names → Scene → ℕ → Type 0
+HasExtents names scene y =
+    (seen : Seen)
+    → scene.views y ≡ Some seen
+    → numbers scene (extents_of (names y)) ≡ extents seen.sides
+
+abbrev pub ArgumentHas : Names → Scene → Argument → Type 0
+ArgumentHas names scene (Whole y) = HasExtents names scene y
+ArgumentHas names scene a = ⊤
+
+-- so have names that a call gives whole
+abbrev pub CallHas : Names → Scene → Statement → Type 0
+CallHas names scene (Call k args) = Each (ArgumentHas names scene) args
+CallHas names scene a = ⊤
+
+abbrev pub IsReadWith : Reading → Names → Scene → Statement → Type 0
+IsReadWith at names scene a = IsReadIn at scene a × CallHas names scene a
+
 -- wherever a run of the block comes to a statement
-abbrev pub ReadAlong : World → Reading → Block → State → Type 0
-ReadAlong world at b s =
+abbrev pub ReadAlong : World → Reading → Names → Block → State → Type 0
+ReadAlong world at names b s =
     (c : Context) (d : Statement) (u : State)
     → b ≡ fill c (next d end)
     → ComesTo world (next d end) c s u
-    → IsReadIn at u.scene d
+    → IsReadWith at names u.scene d

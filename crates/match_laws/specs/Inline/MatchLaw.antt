@@ -10,7 +10,7 @@ use Rattle.exo_meaning.specs.Unseen.{in_arguments as arguments_mention}
 use Rattle.affine_forms.specs.Forms.{Reading, is_affine}
 use Rattle.inplace_laws.specs.Along.{SameAlong}
 use Rattle.inplace_laws.specs.Inline.{inlined}
-use Rattle.match_laws.specs.Names.{Names}
+use Rattle.match_laws.specs.Names.{Names, names_of, extents_of}
 use Rattle.match_laws.specs.Pairs.{Pair, Numbers, Truths, Binders, Own, Access, Unlike}
 use Rattle.match_laws.specs.Moved.{Moving, moved, moved_condition}
 use Rattle.match_laws.specs.Fitting.{coords_moved}
@@ -113,8 +113,12 @@ pub record MayMatch (at : Reading) (theirs : Names) (block : Block) (q : Procedu
       (all_pairs at theirs block q) ≡ true
   -- with the arguments, the body reads the strides of known names alone
   pub strides : AreOfKnown known (put_block (puts q.params args) q.body)
-  -- no name that the block gives whole in a call stands against a window
-  pub calls : calls_alike at (puts q.params args) q.body block ≡ true
+  -- the table of the callee's names has the dimensions of its parameters
+  pub named : (x : ℕ) (dims : List Control)
+      → dims_of q.params x ≡ Some dims
+      → extents_of (names_of q x) ≡ dims
+  -- a window that the block gives in a call stands against no name for which a name stands
+  pub calls : calls_alike (puts q.params args) q.body block ≡ true
 
 -- where what is read in the block has its numbers along a run
 abbrev pub MatchLaw : Type 0
@@ -124,7 +128,7 @@ MatchLaw =
     → matched at theirs block q ≡ Arguments args
     → MayMatch at theirs block q args known
     → Sees known s.scene
-    → ReadAlong world at (nameless block) s
+    → ReadAlong world at theirs (nameless block) s
     → SameAlong world (nameless block) (nameless (inlined q.params args q.body)) s
 
 -- so both run alike
@@ -135,5 +139,5 @@ MatchRuns =
     → matched at theirs block q ≡ Arguments args
     → MayMatch at theirs block q args known
     → Sees known s.scene
-    → ReadAlong world at (nameless block) s
+    → ReadAlong world at theirs (nameless block) s
     → run world block s ≡ run world (inlined q.params args q.body) s

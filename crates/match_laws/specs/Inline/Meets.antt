@@ -11,17 +11,23 @@ use Rattle.inplace_laws.specs.Along.{SameAlong}
 use Rattle.inplace_laws.specs.Inline.{is_view}
 use Rattle.match_laws.specs.Simplify.SameControls.{OfCoords}
 use Rattle.match_laws.specs.Simplify.SimplifiedBlocks.{IsRead}
-use Rattle.match_laws.specs.Names.{Names}
+use Rattle.match_laws.specs.Names.{Names, extents_of, whole_of}
 use Rattle.match_laws.specs.Fitting.{SameCoords}
 use Rattle.match_laws.specs.Moved.{agree, conditions_agree}
 use Rattle.match_laws.specs.Pairs.{Pair, Numbers, Truths, Binders, Own, Access, Unlike, paired}
-use Rattle.match_laws.specs.Alike.{arguments_alike, nameless}
-use Rattle.match_laws.specs.Inline.Known.{AreOfKnown, Sees, ReadAlong}
-use Rattle.match_laws.specs.Inline.AtOnce.{Put, put_control, put_condition, root_for, put_window, put_block}
+use Rattle.match_laws.specs.Alike.{nameless}
+use Rattle.match_laws.specs.Inline.Known.{AreOfKnown, Sees, ReadsHere, ReadAlong}
+use Rattle.match_laws.specs.Inline.AtOnce.{Put, put_control, put_condition, root_for, coords_for}
+use Rattle.match_laws.specs.Inline.AtOnce.{put_window, put_block}
 
--- known: names that stand for buffers where the block begins
-module _ (at : Reading) (known : ℕ → Bool) (put : Put) where
-  -- expressions agree, binders are one, and an access is the access that stands against it
+abbrev pub is_window : Argument → Bool
+is_window (Window x cs) = true
+is_window a = false
+
+-- known: names that stand for buffers where the block begins; ours: the names of the callee
+module _ (at : Reading) (known : ℕ → Bool) (put : Put) (ours : Names) where
+  -- expressions agree, binders are one, and an access is the access that stands against it; the
+  -- whole of a parameter has the coordinates of the window that stands for it
   abbrev pub Meets : Pair → Type 0
   Meets (Numbers p whole e g) = agree at (put_control put e) g ≡ true
   Meets (Truths p whole c d) = conditions_agree at (put_condition put c) d ≡ true
@@ -31,19 +37,23 @@ module _ (at : Reading) (known : ℕ → Bool) (put : Put) where
       (root_for put x ≡ y)
       × ((scene : Scene)
       → Sees known scene
-      → OfCoords (IsRead at scene) (put_window put x cs)
-      → OfCoords (IsRead at scene) ds
+      → ReadsHere at scene
       → SameCoords scene (put_window put x cs) ds)
+      × ((scene : Scene)
+      → Sees known scene
+      → ReadsHere at scene
+      → cs ≡ whole_of (extents_of (ours x))
+      → is_window (put.name x) ≡ true
+      → OfCoords (IsRead at scene) (coords_for put x)
+      → SameCoords scene (put_window put x cs) (coords_for put x))
   Meets (Unlike p) = ⊥
 
 -- ---- names given whole in calls within the body
 
-module _ (at : Reading) (put : Put) where
-  -- what stands for a name that the body gives whole is what the block gives; a name that the
-  -- block gives whole stands against no window
+module _ (put : Put) where
+  -- a window that the block gives stands against no name for which a name stands
   abbrev pub wholes_alike : Argument → Argument → Bool
-  wholes_alike (Whole x) b = arguments_alike at (put.name x) b
-  wholes_alike (Window x cs) (Whole y) = false
+  wholes_alike (Whole x) (Window y ds) = is_window (put.name x)
   wholes_alike a b = true
 
   abbrev pub all_wholes_alike : List Argument → List Argument → Bool
@@ -73,9 +83,9 @@ MeetsAlong =
     (world : World) (at : Reading) (known : ℕ → Bool) (put : Put) (params bound : ℕ → Bool)
     (ours theirs : Names) (b d : Block) (s : State)
     → PutsParams params put
-    → Each (Meets at known put) (paired params bound ours theirs b d)
-    → calls_alike at put b d ≡ true
+    → Each (Meets at known put ours) (paired params bound ours theirs b d)
+    → calls_alike put b d ≡ true
     → AreOfKnown known (put_block put b)
     → Sees known s.scene
-    → ReadAlong world at (nameless d) s
+    → ReadAlong world at theirs (nameless d) s
     → SameAlong world (nameless d) (nameless (put_block put b)) s

@@ -77,7 +77,7 @@ pub record MayReplace (world above : World) (own : ℕ → Bool) (at : Reading) 
   pub read : (s u : State)
       → IsAdmissible world p s
       → ComesTo world o.piece o.around s u
-      → Sees known u.scene × ReadAlong world at (nameless o.piece) u
+      → Sees known u.scene × ReadAlong world at theirs (nameless o.piece) u
   pub call :
       MayInline world above own (with_block p o (inlined fresh.params args fresh.body)) fresh
       o.around (inlined fresh.params args fresh.body) k args

@@ -507,9 +507,11 @@ module _ (fields : ℕ → Option Kind) (memories : ℕ) (callees called : ℕ �
   own_ids x y h = one_id pairs x y one h
 
   pub may_match : arguments_mention (λ x. is_buffer_of x q.params) args ≡ false
-      → calls_alike at (puts q.params args) q.body block ≡ true
+      → ((x : ℕ) (dims : List Control) → dims_of q.params x ≡ Some dims
+      → extents_of (names_of q x) ≡ dims)
+      → calls_alike (puts q.params args) q.body block ≡ true
       → MayMatch at theirs block q args known
-  may_match apart calls = record {
+  may_match apart named calls = record {
     kinds = kinds;
     apart = apart;
     binders = one;
@@ -520,6 +522,7 @@ module _ (fields : ℕ → Option Kind) (memories : ℕ) (callees called : ℕ �
         (names_of_args (IsOfKnown known) q.params args read)
         (flags_of_args (IsOfKnown known) q.params args read) memories callees own.body
         (scope_of [] own.params) (λ x. x) known stand.0 owns ok.body;
+    named = named;
     calls = calls;
   }
 

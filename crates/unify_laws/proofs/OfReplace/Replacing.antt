@@ -2,7 +2,7 @@
 use Rattle.std.proofs.Common.{◌≡◌, ℕ, zero, ◌+◌, Bool, true, false, ◌&&◌, List, [], ◌∷◌, ◌++◌, map, length}
 use Rattle.std.proofs.Common.{Option, Some, None, if◌then◌else◌, nat_lt, refl, sym, ap, ap₂, ◌∙◌, subst}
 use Rattle.std.proofs.Common.{arith}
-use Rattle.std.specs.Prelude.{not, slice_get}
+use Rattle.std.specs.Prelude.{slice_get}
 use Rattle.std.specs.List.{list_all}
 use Rattle.exo_tree.specs.Tree.{Argument, Param, Call, Block, end, next, joined, Procedure}
 use Rattle.exo_tree.specs.Context.{Context, Here, After, InLoop, InThen, InElse, fill, rest_of}
@@ -10,7 +10,7 @@ use Rattle.exo_tree.specs.Places.{Opened, opened}
 use Rattle.exo_tree.specs.Renaming.{binders, binders_below}
 use Rattle.exo_meaning.specs.Units.{field_kind}
 use Rattle.exo_meaning.specs.Unseen.{in_block as mentions}
-use Rattle.meaning_laws.specs.Scoped.{has_binder, is_param}
+use Rattle.meaning_laws.specs.Scoped.{has_binder}
 use Rattle.affine_forms.specs.Forms.{Reading}
 use Rattle.affine_forms.proofs.Values.{and_parts, some_injective}
 use Rattle.affine_places.specs.Roots.{has_extents}
@@ -33,7 +33,7 @@ use Rattle.step_rules.proofs.Shapes.{or_pass_next}
 use Rattle.call_laws.proofs.OfNames.Copies.{bodies_without_copies}
 use Rattle.unify_laws.specs.Places.{reading_in}
 use Rattle.unify_laws.specs.Simplify.{reading_of}
-use Rattle.unify_laws.specs.Replace.Rule.{is_used_after, hands_wholes, wholes_are_short, may_share}
+use Rattle.unify_laws.specs.Replace.Rule.{is_used_after, hands_wholes, may_share}
 use Rattle.unify_laws.specs.Replace.Rule.{told, told_there, said, param_name, given_in, replace_rule}
 use Rattle.unify_laws.proofs.Simplify.{rooted_is}
 use Rattle.unify_laws.proofs.OfReplace.Site.{call_refines}
@@ -67,8 +67,7 @@ record IsSaid (k : ℕ) (t : Target) (o : Opened) (args : List Argument) : Type 
   callee : Procedure
   there : slice_get t.unit.procedures k ≡ Some callee
   found : matched (reading_of t) (names_of t.proc) o.piece callee ≡ Arguments args
-  plain : hands_wholes (reading_of t) (is_param callee) (given_in callee.params args) callee.body o.piece
-      ≡ false
+  plain : hands_wholes (given_in callee.params args) callee.body o.piece ≡ false
 
 is_said : (k : ℕ) (t : Target) (o : Opened) (args : List Argument) → said k t o ≡ Got args
     → IsSaid k t o args
@@ -81,20 +80,15 @@ is_said k t o args h = outer (slice_get t.unit.procedures k) refl h
     inner q e (Said (NoMatch path)) f g = no_got (causes.NoMatch path) args g
     inner q e (Said (Undetermined x)) f g = no_got (causes.Undetermined (param_name q.params x)) args g
     inner q e (Said (Arguments those)) f g =
-        let given = given_in q.params those in
         let rest = (if may_share t o k q those then Got those else Not SharedArgument) in
-        let plain = hands_wholes (reading_of t) (is_param q) given q.body o.piece in
-        let u = got_unless (not (wholes_are_short (reading_of t) (is_param q) given q.body o.piece))
-        (Form WideNumber) (if plain then Not WrongShape else rest) args g in
-        let v = got_unless plain WrongShape rest args u.1 in
-        let same : those ≡ args = got_if (may_share t o k q those) SharedArgument those args v.1 in
+        let u = got_unless (hands_wholes (given_in q.params those) q.body o.piece) WrongShape rest args g in
+        let same : those ≡ args = got_if (may_share t o k q those) SharedArgument those args u.1 in
         record {
           callee = q;
           there = e;
           found = width_law (reading_of t) (names_of t.proc) o.piece q (Arguments those) f
               ∙ ap (λ z. Arguments z) same;
-          plain = subst (λ z. hands_wholes (reading_of t) (is_param q) (given_in q.params z) q.body o.piece
-              ≡ false) same v.0;
+          plain = subst (λ z. hands_wholes (given_in q.params z) q.body o.piece ≡ false) same u.0;
         }
 
     outer : (u : Option Procedure) → slice_get t.unit.procedures k ≡ u
@@ -176,8 +170,7 @@ module _ (k n : ℕ) (a : Site) (is : IsSite (replace_rule k n) a) where
     callee : Procedure
     there : slice_get t.unit.procedures k ≡ Some callee
     found : matched (reading_of t) (names_of t.proc) (old s) callee ≡ Arguments args
-    plain : hands_wholes (reading_of t) (is_param callee) (given_in callee.params args) callee.body (old s)
-        ≡ false
+    plain : hands_wholes (given_in callee.params args) callee.body (old s) ≡ false
 
   is_found : IsFound
   is_found =
@@ -239,10 +232,7 @@ module _ (k n : ℕ) (a : Site) (is : IsSite (replace_rule k n) a) where
       subst (λ d. Replaces s d (fields_at_exit (replace_rule k n) a)) is_found.drafted
       (whole (call_refines s a.base k is_found.callee is_found.args is.spot is.below is_found.there runs
       (ap (λ (at : Reading). matched at (names_of t.proc) (old s) is_found.callee) (sym reading)
-      ∙ is_found.found) is_found.unused
-      (subst (λ at. hands_wholes at (is_param is_found.callee)
-      (given_in is_found.callee.params is_found.args) is_found.callee.body (old s) ≡ false) reading
-      is_found.plain)))
+      ∙ is_found.found) is_found.unused is_found.plain))
 
 pub replace_is_lawful : (k n : ℕ) → IsLawful (replace_rule k n)
 replace_is_lawful k n = record { replaces = λ a is versions met. stands k n a is }

@@ -2,8 +2,9 @@
 use Rattle.std.proofs.Common.{◌≡◌, ℕ, pos, List, [], ◌∷◌, None, refl}
 use Rattle.std.specs.Prelude.{codes}
 use Rattle.exo_tree.specs.Tree.{Index, Stride, I32, Binder, Control, Lit, Var, StrideOf, Add}
-use Rattle.exo_tree.specs.Tree.{Const, Read, At, Span, Argument, ControlArg, Window, Assign}
-use Rattle.exo_tree.specs.Tree.{Reduce, Config, For, Alloc, Block, end, next, Param, ControlParam}
+use Rattle.exo_tree.specs.Tree.{Const, Read, At, Span, Argument, ControlArg, Whole, Window, Assign}
+use Rattle.exo_tree.specs.Tree.{Reduce, Config, For, Alloc, Call, Block, end, next, Param}
+use Rattle.exo_tree.specs.Tree.{ControlParam}
 use Rattle.exo_tree.specs.Tree.{TensorParam, WindowParam, Procedure}
 use Rattle.exo_tree.specs.Context.{Here}
 use Rattle.exo_tree.specs.Places.{Main}
@@ -62,6 +63,20 @@ abbrev shift : Procedure
 shift = procedure (codes "shift") (number 0 (codes "k") ∷ window 1 (codes "w") ∷ [])
     (next (Assign 1 (Add (Var 0) (Var 0) ∷ []) (Const (pos 0))) end)
 
+-- def hand(w: [i32][8]): fill(w)
+abbrev hand : Procedure
+hand = procedure (codes "hand") (window 0 (codes "w") ∷ []) (next (Call 0 (Whole 0 ∷ [])) end)
+
+-- def hand_window(w: [i32][8]): fill(w[0:8])
+abbrev hand_window : Procedure
+hand_window = procedure (codes "hand_window") (window 0 (codes "w") ∷ [])
+    (next (Call 0 (Window 0 (Span (lit 0) (lit 8) ∷ []) ∷ [])) end)
+
+-- def hand_tensor(a: i32[8]): fill(a)
+abbrev hand_tensor : Procedure
+hand_tensor = procedure (codes "hand_tensor") (tensor 0 (codes "a") (lit 8 ∷ []) ∷ [])
+    (next (Call 0 (Whole 0 ∷ [])) end)
+
 -- ---- the target
 
 abbrev target : Block → Target
@@ -69,12 +84,12 @@ target b =
     let p = procedure (codes "p") (tensor 10 (codes "B") (lit 8 ∷ lit 8 ∷ []) ∷ tensor 11 (codes "y") (lit 8 ∷ []) ∷ []) b in
     record {
       unit = record {
-        procedures = fill ∷ set ∷ copy ∷ shift ∷ p ∷ [];
+        procedures = fill ∷ set ∷ copy ∷ shift ∷ hand ∷ hand_window ∷ hand_tensor ∷ p ∷ [];
         fields = record { config = codes "Cfg"; name = codes "s"; kind = Stride } ∷ [];
         memories = plain_cells ∷ [];
       };
       origins = [];
-      number = 4;
+      number = 7;
       proc = p;
     }
 
@@ -102,8 +117,35 @@ shared : asked 2 (loop 12 (next (Assign 11 (Var 12 ∷ []) (Read 11 (Var 12 ∷ 
     ≡ Not SharedArgument
 shared = refl
 
-no_callee : asked 5 (loop 12 (next (Assign 11 (Var 12 ∷ []) (Const (pos 1))) end)) ≡ Not WrongShape
+no_callee : asked 8 (loop 12 (next (Assign 11 (Var 12 ∷ []) (Const (pos 1))) end)) ≡ Not WrongShape
 no_callee = refl
+
+-- ---- calls within: fill(y), and fill(y[0:8])
+
+abbrev fill_whole : Block
+fill_whole = next (Call 0 (Whole 11 ∷ [])) end
+
+abbrev fill_window : Block
+fill_window = next (Call 0 (Window 11 (Span (lit 0) (lit 8) ∷ []) ∷ [])) end
+
+abbrev part : List Argument
+part = Window 11 (Span (lit 0) (lit 8) ∷ []) ∷ []
+
+whole_for_whole : asked 4 fill_whole ≡ Got part
+whole_for_whole = refl
+
+window_for_whole : asked 4 fill_window ≡ Got part
+window_for_whole = refl
+
+whole_for_window : asked 5 fill_whole ≡ Got part
+whole_for_window = refl
+
+whole_for_tensor : asked 6 fill_whole ≡ Got (Whole 11 ∷ [])
+whole_for_tensor = refl
+
+-- the argument of a would be the whole of y, which may have other extents
+window_for_tensor : asked 6 fill_window ≡ Not WrongShape
+window_for_tensor = refl
 
 -- ---- Cfg.s = stride(y, 0); B[1, 0] = 0: the stride is known to be 1, and stands in an index
 

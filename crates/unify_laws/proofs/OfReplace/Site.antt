@@ -4,16 +4,17 @@ use Rattle.std.proofs.Common.{◌∷◌, ◌++◌, length, map, Option, Some, No
 use Rattle.std.proofs.Common.{◌∙◌, subst, true≢false, eqb-true, leb-true, nat_lt}
 use Rattle.std.specs.Prelude.{slice_get}
 use Rattle.std.specs.List.{list_all}
-use Rattle.exo_tree.specs.Tree.{Kind, Argument}
-use Rattle.exo_tree.specs.Tree.{Param, Call, Block, end, next}
+use Rattle.exo_tree.specs.Tree.{Kind, Control, Argument, ControlArg, ConditionArg, Whole, Window}
+use Rattle.exo_tree.specs.Tree.{Param, Statement, Call, Block, end, next}
 use Rattle.exo_tree.specs.Tree.{joined, Procedure, Program}
 use Rattle.exo_tree.specs.Context.{rest_of}
-use Rattle.exo_tree.specs.Places.{Main}
 use Rattle.exo_tree.specs.Renaming.{binders, renaming}
 use Rattle.exo_meaning.specs.Calls.{Callee, all_given}
 use Rattle.exo_meaning.specs.Inputs.{is_buffer_of, IsAdmissible, Refines}
+use Rattle.exo_meaning.specs.Orders.{Each}
 use Rattle.exo_meaning.specs.Renaming.{Renaming}
 use Rattle.exo_meaning.specs.Run.{World, run, unit_world, kinds_of, callees, callee_in}
+use Rattle.exo_meaning.specs.Scene.{Scene}
 use Rattle.exo_meaning.specs.State.{State}
 use Rattle.exo_meaning.specs.Units.{Scope, Sort, ControlName, BufferName, sort_in}
 use Rattle.exo_meaning.specs.Units.{has_dimension, field_kind}
@@ -43,26 +44,28 @@ use Rattle.inplace_laws.specs.InPlace.{makes}
 use Rattle.inplace_laws.specs.Inline.{inlined, TakesAll, not_own, MayInline}
 use Rattle.inplace_laws.specs.Uses.{in_block as uses}
 use Rattle.inplace_laws.proofs.Above.{above_law}
-use Rattle.match_laws.specs.Names.{Names, names_of}
+use Rattle.match_laws.specs.Names.{Names, names_of, extents_of}
 use Rattle.match_laws.specs.Matched.{Matched, Arguments, NoMatch, Undetermined, matched, to, all_pairs}
 use Rattle.match_laws.specs.MatchedFits.{given_names, IsMatch}
 use Rattle.match_laws.specs.RenamedCallee.{re_params, re_procedure}
 use Rattle.match_laws.proofs.MatchedFits.{matched_fits}
 use Rattle.match_laws.proofs.RenamedCallee.{same_ids}
 use Rattle.match_laws.proofs.RenamedNames.{params_are}
-use Rattle.match_laws.specs.Alike.{nameless}
+use Rattle.match_laws.specs.Alike.{nameless, nameless_statement}
 use Rattle.match_laws.specs.Simplify.SimplifiedBlocks.{IsRead}
 use Rattle.match_laws.specs.Simplify.SameControls.{OfArguments}
 use Rattle.match_laws.specs.Inline.AtOnce.{Put, puts}
 use Rattle.match_laws.specs.Inline.InlineConditions.{IsInlinable, StandThere}
-use Rattle.match_laws.specs.Inline.Known.{strides_of, IsOfKnown, Sees, IsReadIn, ReadAlong}
-use Rattle.match_laws.specs.Inline.MatchLaw.{MayMatch}
+use Rattle.match_laws.specs.Inline.Known.{strides_of, IsOfKnown, Sees, HasExtents, ArgumentHas}
+use Rattle.match_laws.specs.Inline.Known.{CallHas, IsReadWith, ReadAlong}
+use Rattle.match_laws.specs.Inline.MatchLaw.{dims_of, MayMatch}
 use Rattle.match_laws.specs.Inline.Meets.{calls_alike}
 use Rattle.match_laws.specs.Inline.MovedIsPut.{are_of_kinds, HasBlockIds}
 use Rattle.match_laws.specs.Inline.ReplaceRule.{MayReplace}
 use Rattle.match_laws.proofs.OfInline.AtOnce.{puts_keep, Keeps}
 use Rattle.match_laws.proofs.OfInline.InlineConditions.{inline_conditions}
 use Rattle.match_laws.proofs.OfInline.MatchLaw.{one_id, match_runs}
+use Rattle.match_laws.proofs.OfInline.Named.{named_dims, own_params}
 use Rattle.match_laws.proofs.OfInline.ReplaceRule as landed
 use Rattle.place_laws.specs.Scope.Holes.{roots_at, within}
 use Rattle.place_laws.proofs.OfScope.Apart.{renamed_mentions}
@@ -98,6 +101,7 @@ use Rattle.unify_laws.proofs.OfReplace.Matches.{among_mapped, may_match, args_st
 use Rattle.unify_laws.proofs.OfReplace.MatchedKinds.{kinds_match}
 use Rattle.unify_laws.proofs.OfReplace.Neither as neither
 use Rattle.unify_laws.proofs.OfReplace.PieceIds.{piece_ids}
+use Rattle.unify_laws.proofs.OfReplace.Tables.{extents_stand}
 use Rattle.unify_laws.proofs.OfReplace.Wholes.{blocks_are}
 
 no : {P : Type 0} → false ≡ true → P
@@ -147,6 +151,26 @@ first_dimension k (Some (BufferName cell rank dense)) h = some k rank h
 same_arguments : (a b : List Argument) → Arguments a ≡ Arguments b → a ≡ b
 same_arguments a b e = cc
 
+-- ---- names given whole in calls
+
+call_nameless : (names : Names) (scene : Scene) (a : Statement) → CallHas names scene a
+    → CallHas names scene (nameless_statement a)
+call_nameless names scene (Call n those) h = h
+call_nameless names scene a h = tt
+
+arguments_have : (names : Names) (scene : Scene) → ((y : ℕ) → HasExtents names scene y)
+    → (those : List Argument) → Each (ArgumentHas names scene) those
+arguments_have names scene h [] = tt
+arguments_have names scene h (Whole y ∷ those) = (h y, arguments_have names scene h those)
+arguments_have names scene h (ControlArg e ∷ those) = (tt, arguments_have names scene h those)
+arguments_have names scene h (ConditionArg c ∷ those) = (tt, arguments_have names scene h those)
+arguments_have names scene h (Window y cs ∷ those) = (tt, arguments_have names scene h those)
+
+call_has : (names : Names) (scene : Scene) (a : Statement) → ((y : ℕ) → HasExtents names scene y)
+    → CallHas names scene a
+call_has names scene (Call n those) h = arguments_have names scene h those
+call_has names scene a h = tt
+
 -- ---- at a spot
 
 module _ (s : Spot) (base k : ℕ) (q : Procedure) (args : List Argument) (is : IsSpot s)
@@ -156,8 +180,7 @@ module _ (s : Spot) (base k : ℕ) (q : Procedure) (args : List Argument) (is : 
     (found : matched (reading_in s.target.unit s.target.proc) (names_of s.target.proc) (old s) q
     ≡ Arguments args)
     (unused : mentions (has_binder (old s)) (rest_of (around s)) ≡ false)
-    (plain : hands_wholes (reading_in s.target.unit s.target.proc) (is_param q)
-    (given_in q.params args) q.body (old s) ≡ false) where
+    (plain : hands_wholes (given_in q.params args) q.body (old s) ≡ false) where
   abbrev unit : Program
   unit = s.target.unit
 
@@ -331,18 +354,25 @@ module _ (s : Spot) (base k : ℕ) (q : Procedure) (args : List Argument) (is : 
   kinds_fit : are_of_kinds fresh.params args ≡ true
   kinds_fit = kinds_match at theirs (old s) fresh args its.1.found
 
-  calls : calls_alike at put fresh.body (old s) ≡ true
+  calls : calls_alike put fresh.body (old s) ≡ true
   calls =
-      blocks_are at (to at theirs (old s) fresh) (given_names at theirs (old s) fresh args) put r.to
-      (is_param q) par (has_binder (old s)) (names_of fresh) theirs (given_in q.params args)
-      (λ x h. name_is r q.params args x kinds_fit) (λ x. params_are r q.params x)
-      (λ x h. names_keep.name x h) own_ids (λ path. path) Main 0 q.body (old s) plain it.fits
+      blocks_are put r.to (given_in q.params args) (λ x. name_is r q.params args x kinds_fit) q.body
+      (old s) plain
+
+  distinct : AreDistinct fresh.params
+  distinct = params_differ_still r q.params (params_differ fields memories q.params [] kept.1.params)
+
+  named : (x : ℕ) (dims : List Control) → dims_of fresh.params x ≡ Some dims
+      → extents_of (names_of fresh x) ≡ dims
+  named =
+      named_dims fresh (own_params fresh.body fresh.params distinct (λ x h.
+      same_binders x ∙ late_no_binder x (param_late x h)))
 
   may : MayMatch at theirs (old s) fresh args known
   may =
       may_match fields memories (slice_get kept.0) called scope root known knowns r at theirs
       (names_plain fields memories called known p is.runs.procedure) (old s) q args kept.1 is.well.piece
-      fit read its.1.found its.1.binders_are_one apart calls
+      fit read its.1.found its.1.binders_are_one apart named calls
 
   steady : are_steady args ≡ true
   steady =
@@ -360,14 +390,18 @@ module _ (s : Spot) (base k : ℕ) (q : Procedure) (args : List Argument) (is : 
 
   reads : (first u : State) → IsAdmissible (world_of s) p first
       → ComesTo (world_of s) (old s) (around s) first u
-      → ReadAlong (world_of s) at (nameless (old s)) u
+      → ReadAlong (world_of s) at theirs (nameless (old s)) u
   reads first u good come =
       let here : IsThere unit p (around s) (old s) u = comes_there s is first u good come in
-      each_nameless (world_of s) (IsReadIn at) (λ scene a h. (h.0, of_nameless (IsRead at scene) a h.1))
-      (old s) u (λ c d v same after. (
-        entry_reads unit p (within (around s) c) (next d end) v
-            (on_there unit p (around s) (old s) u here c (next d end) v same after),
-        each_is_read unit p (around s) (old s) u here c d v same after,
+      each_nameless (world_of s) (IsReadWith at theirs)
+      (λ scene a h. ((h.0.0, of_nameless (IsRead at scene) a h.0.1), call_nameless theirs scene a h.1))
+      (old s) u (λ c d v same after.
+      let inner = on_there unit p (around s) (old s) u here c (next d end) v same after in (
+        (
+          entry_reads unit p (within (around s) c) (next d end) v inner,
+          each_is_read unit p (around s) (old s) u here c d v same after,
+        ),
+        call_has theirs v.scene d (extents_stand unit p (within (around s) c) (next d end) v inner),
       ))
 
   abbrev body : Block
@@ -453,7 +487,7 @@ module _ (s : Spot) (base k : ℕ) (q : Procedure) (args : List Argument) (is : 
       not_if (makes fresh.body x) (λ m. true≢false
           (sym (made_binder fresh.body x m) ∙ same_binders x ∙ late_no_binder x (param_late x h))),
     );
-    distinct = params_differ_still r q.params (params_differ fields memories q.params [] kept.1.params);
+    distinct = distinct;
     takes = takes;
     free = own_free;
     others = λ x h.

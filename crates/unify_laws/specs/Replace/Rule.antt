@@ -1,7 +1,7 @@
 -- The rule that puts a call of a procedure in the place of a block that is matched with its body.
-use Rattle.std.specs.Prelude.{ℕ, ◌==◌, Bool, true, false, not, ◌&&◌, ◌||◌, if◌then◌else◌, List, []}
+use Rattle.std.specs.Prelude.{ℕ, ◌==◌, Bool, false, not, ◌&&◌, ◌||◌, if◌then◌else◌, List, []}
 use Rattle.std.specs.Prelude.{◌∷◌, Option, Some, None, slice_get}
-use Rattle.exo_tree.specs.Tree.{Coord, At, Span, Argument, ControlArg, ConditionArg, Whole, Window}
+use Rattle.exo_tree.specs.Tree.{Argument, Whole, Window}
 use Rattle.exo_tree.specs.Tree.{Param, Statement, If, For, Call, Block, end, next, Procedure}
 use Rattle.exo_tree.specs.Context.{rest_of}
 use Rattle.exo_tree.specs.Places.{Path, Opened, opened}
@@ -9,16 +9,14 @@ use Rattle.exo_meaning.specs.Calls.{Callee}
 use Rattle.exo_meaning.specs.Run.{program_world}
 use Rattle.exo_meaning.specs.Units.{field_kind, share_nothing_written}
 use Rattle.exo_meaning.specs.Unseen.{in_block as mentions}
-use Rattle.meaning_laws.specs.Scoped.{has_binder, is_param}
+use Rattle.meaning_laws.specs.Scoped.{has_binder}
 use Rattle.place_laws.specs.Scope.Roots.{own_roots_at}
 use Rattle.cursor_forward.specs.Causes as causes
 use Rattle.cursor_forward.specs.Causes.{WrongShape, SharedArgument, WideNumber, Form}
-use Rattle.affine_forms.specs.Forms.{Reading}
-use Rattle.match_laws.specs.Alike.{arguments_alike}
 use Rattle.match_laws.specs.Names.{names_of}
 use Rattle.match_laws.specs.Matched.{Arguments, NoMatch, Undetermined}
-use Rattle.match_laws.specs.Widths.{are_short, conditions_are_short}
 use Rattle.match_laws.specs.Widths.{InWidth, Said, TooWide, matched_in_width}
+use Rattle.match_laws.specs.Inline.Meets.{is_window}
 use Rattle.step_rules.specs.Rule.{Tried, Got, Not, Target, Piece, Rule, plain_rule}
 use Rattle.step_rules.specs.Answer.{then_try, opened_or_wrong}
 use Rattle.unify_laws.specs.Simplify.{reading_of}
@@ -42,18 +40,17 @@ abbrev pub written_by : Option Callee → ℕ → Bool
 written_by None x = false
 written_by (Some callee) x = callee.writes x
 
--- ---- what is refused besides: a parameter that the body hands on whole where the block has other
--- coordinates than its argument, or as a window where the block has a whole
+-- ---- what is refused besides: a parameter that the body hands on whole against a window, where
+-- its argument is the whole of a name, which may have other extents
 
 -- given: the argument of each parameter
-module _ (at : Reading) (params : ℕ → Bool) (given : ℕ → Option Argument) where
-  abbrev pub is_alike : Option Argument → Argument → Bool
-  is_alike None b = false
-  is_alike (Some a) b = arguments_alike at a b
+module _ (given : ℕ → Option Argument) where
+  abbrev pub takes_window : Option Argument → Bool
+  takes_window None = false
+  takes_window (Some a) = is_window a
 
   abbrev pub hands_on : Argument → Argument → Bool
-  hands_on (Whole x) b = params x && not (is_alike (given x) b)
-  hands_on (Window x cs) (Whole y) = params x
+  hands_on (Whole x) (Window y ds) = not (takes_window (given x))
   hands_on a b = false
 
   abbrev pub hand_on : List Argument → List Argument → Bool
@@ -71,43 +68,6 @@ module _ (at : Reading) (params : ℕ → Bool) (given : ℕ → Option Argument
     hands_wholes (next a b) (next c d) = hands_on_in a c || hands_wholes b d
     hands_wholes b d = false
 
-  -- ---- the forms that this asks for
-
-  abbrev pub coords_are_short : List Coord → List Coord → Bool
-  coords_are_short (At a ∷ cs) (At b ∷ ds) = are_short at a b && coords_are_short cs ds
-  coords_are_short (Span a b ∷ cs) (Span c d ∷ ds) =
-      (are_short at a c && are_short at b d) && coords_are_short cs ds
-  coords_are_short cs ds = true
-
-  abbrev pub argument_is_short : Argument → Argument → Bool
-  argument_is_short (ControlArg a) (ControlArg b) = are_short at a b
-  argument_is_short (ConditionArg c) (ConditionArg d) = conditions_are_short at c d
-  argument_is_short (Window x cs) (Window y ds) = coords_are_short cs ds
-  argument_is_short a b = true
-
-  abbrev pub alike_is_short : Option Argument → Argument → Bool
-  alike_is_short None b = true
-  alike_is_short (Some a) b = argument_is_short a b
-
-  abbrev pub hands_on_is_short : Argument → Argument → Bool
-  hands_on_is_short (Whole x) b = not (params x) || alike_is_short (given x) b
-  hands_on_is_short a b = true
-
-  abbrev pub hand_on_is_short : List Argument → List Argument → Bool
-  hand_on_is_short (a ∷ as') (b ∷ bs) = hands_on_is_short a b && hand_on_is_short as' bs
-  hand_on_is_short as' bs = true
-
-  abbrev mutual
-    pub wholes_are_short_in : Statement → Statement → Bool
-    wholes_are_short_in (If c a b) (If r d e) = wholes_are_short a d && wholes_are_short b e
-    wholes_are_short_in (For i lo hi b) (For j l h d) = wholes_are_short b d
-    wholes_are_short_in (Call k as') (Call m bs) = hand_on_is_short as' bs
-    wholes_are_short_in a c = true
-
-    pub wholes_are_short : Block → Block → Bool
-    wholes_are_short (next a b) (next c d) = wholes_are_short_in a c && wholes_are_short b d
-    wholes_are_short b d = true
-
 -- ---- the arguments
 
 -- the arguments may be of one buffer by the rule of calls; k: the number of q
@@ -122,12 +82,9 @@ module _ (t : Target) (o : Opened) (k : ℕ) (q : Procedure) where
   told (Said (NoMatch path)) = Not (causes.NoMatch path)
   told (Said (Undetermined x)) = Not (causes.Undetermined (param_name q.params x))
   told (Said (Arguments args)) =
-      let given = given_in q.params args in
-      if not (wholes_are_short (reading_of t) (is_param q) given q.body o.piece)
-      then Not (Form WideNumber)
-      else (if hands_wholes (reading_of t) (is_param q) given q.body o.piece
+      if hands_wholes (given_in q.params args) q.body o.piece
       then Not WrongShape
-      else (if may_share args then Got args else Not SharedArgument))
+      else (if may_share args then Got args else Not SharedArgument)
 
   abbrev pub told_there : Tried (List Argument)
   told_there = told (matched_in_width (reading_of t) (names_of t.proc) o.piece q)
