@@ -1,9 +1,16 @@
 -- Closed runs, by which the rules of the machine can be read off.
-use Rattle.std.specs.Prelude.{◌≡◌, ℕ, ℤ, pos, negsuc, ◌+ℤ◌, ◌==◌, false, if◌then◌else◌, List, [], ◌∷◌, map, codes, Option, Some, None}
+use Rattle.std.specs.Prelude.{◌≡◌, ℕ, ℤ, pos, negsuc, ◌+ℤ◌, ◌==◌, false, if◌then◌else◌, List, []}
+use Rattle.std.specs.Prelude.{◌∷◌, map, codes, Option, Some, None}
 use Rattle.exo_tree.specs.Tree.{Cell, I8, I16, I32, Ui8}
 use Rattle.exo_meaning.specs.Value.{Value, Undefined, Number}
-use Rattle.c_tree.specs.CTree.{Name, Single, Vector, Number64, Literal, Named, StrideIn, Sum, Difference, Product, Quotient, Remainder, CellRef, InArray, InWindow, Number32, Literal32, Read32, Difference32, Actual, Control64, Alone, WindowOf, CStatement, Store, AddTo, Loop, Array, Malloc, Free, Bind, CallOf, Instruction, CBlock, stop, first, Number64Param, ArrayParam, WindowParamOf, CFunction, CUnit}
-use Rattle.c_machine.specs.Machine.{Outcome, Done, Fault, NoStore, after, IsNumber, IsArray, Machine, number64}
+use Rattle.c_tree.specs.CTree.{Name, Single, Vector, Number64, Literal, Named, StrideIn, Sum}
+use Rattle.c_tree.specs.CTree.{Difference, Product, Quotient, Remainder, CellRef, InArray, InWindow}
+use Rattle.c_tree.specs.CTree.{Number32, Literal32, Read32, Difference32, Actual, Control64, Alone}
+use Rattle.c_tree.specs.CTree.{WindowOf, CStatement, Store, AddTo, Loop, Array, Malloc, Free, Bind}
+use Rattle.c_tree.specs.CTree.{CallOf, Instruction, CBlock, stop, first, Number64Param, ArrayParam}
+use Rattle.c_tree.specs.CTree.{WindowParamOf, CFunction, CUnit}
+use Rattle.c_machine.specs.Machine.{Outcome, Done, Fault, NoStore, after, IsNumber, IsArray}
+use Rattle.c_machine.specs.Machine.{Machine, number64}
 use Rattle.c_machine.specs.CRun.{CWorld, Behaviour, run_c, run_file}
 
 -- no names, no objects, no functions
@@ -101,19 +108,29 @@ fill = record {
 
 -- the last column of a tensor of 2 rows and 3 columns
 abbrev pub column : Actual
-column = WindowOf 1 I32 (InArray x (Sum (Product (Literal (pos 0)) (Named n)) (Difference (Named n) (Literal (pos 1))))) (Named n ∷ [])
+column =
+    WindowOf 1 I32
+    (InArray x (Sum (Product (Literal (pos 0)) (Named n)) (Difference (Named n) (Literal (pos 1)))))
+    (Named n ∷ [])
 
 -- void f(int64_t n, int32_t *x), with that body
 abbrev pub f : CBlock → CFunction
 f body = record { name = codes "f"; formals = Number64Param n ∷ ArrayParam I32 x ∷ []; body = body }
 
 abbrev pub file : CBlock → CUnit
-file body = record { report = []; includes = []; structs = []; fields = []; functions = fill ∷ f body ∷ [] }
+file body =
+    record { report = []; includes = []; structs = []; fields = []; functions = fill ∷ f body ∷ [] }
 
 -- object 0 has six cells of that type, and they hold 1, 2, 3 ..
 abbrev pub six : Cell → Machine
 six cell = record {
-  setting = record { names = λ y. None; objects = λ o. if o == 0 then Some (record { cell = cell; size = pos 6; heap = false }) else None; free = 1; fields = λ y. pos 0 };
+  setting = record {
+    names = λ y. None;
+    objects =
+        λ o. if o == 0 then Some (record { cell = cell; size = pos 6; heap = false }) else None;
+    free = 1;
+    fields = λ y. pos 0
+  };
   contents = λ o k. if o == 0 then Number (k +ℤ pos 1) else Undefined;
 }
 
@@ -122,7 +139,10 @@ six_cells m = map (λ k. m.contents 0 k) (pos 0 ∷ pos 1 ∷ pos 2 ∷ pos 3 �
 
 -- what the six cells hold after a call of `f` on 3 and the object
 abbrev pub called_on : Machine → (ℕ → Option Behaviour) → CBlock → Outcome (List Value)
-called_on m templates body = after (run_file (file body) templates 1 (IsNumber (pos 3) ∷ IsArray (record { object = 0; offset = pos 0 }) ∷ []) m) (λ k. Done (six_cells k))
+called_on m templates body =
+    after (run_file (file body) templates 1
+    (IsNumber (pos 3) ∷ IsArray (record { object = 0; offset = pos 0 }) ∷ []) m)
+    (λ k. Done (six_cells k))
 
 abbrev pub no_templates : ℕ → Option Behaviour
 no_templates k = None
@@ -137,14 +157,26 @@ abbrev pub hold : List ℤ → Outcome (List Value)
 hold ks = Done (map Number ks)
 
 pub record CallsAreInPlace : Type 0 where
-  pub through_a_window : called (call_fill column) ≡ hold (pos 1 ∷ pos 2 ∷ pos 5 ∷ pos 4 ∷ pos 5 ∷ pos 5 ∷ [])
-  pub through_a_view : called (first (Bind 1 I32 w (InArray x (Literal (pos 1))) (Literal (pos 1) ∷ [])) (call_fill (Alone w))) ≡ hold (pos 1 ∷ pos 5 ∷ pos 5 ∷ pos 4 ∷ pos 5 ∷ pos 6 ∷ [])
+  pub through_a_window :
+      called (call_fill column) ≡ hold (pos 1 ∷ pos 2 ∷ pos 5 ∷ pos 4 ∷ pos 5 ∷ pos 5 ∷ [])
+  pub through_a_view :
+      called (first (Bind 1 I32 w (InArray x (Literal (pos 1))) (Literal (pos 1) ∷ []))
+      (call_fill (Alone w)))
+      ≡ hold (pos 1 ∷ pos 5 ∷ pos 5 ∷ pos 4 ∷ pos 5 ∷ pos 6 ∷ [])
   pub no_window : called (call_fill (Alone x)) ≡ Fault
-  pub other_rank : called (call_fill (WindowOf 2 I32 (InArray x (Literal (pos 0))) (Literal (pos 1) ∷ Literal (pos 1) ∷ []))) ≡ Fault
+  pub other_rank :
+      called (call_fill (WindowOf 2 I32 (InArray x (Literal (pos 0)))
+      (Literal (pos 1) ∷ Literal (pos 1) ∷ [])))
+      ≡ Fault
   pub other_type : called_on (six I8) no_templates stop ≡ Fault
-  pub no_such_stride : called (first (Bind 1 I32 w (InArray x (Literal (pos 1))) (Literal (pos 1) ∷ [])) (first (Store I32 (InWindow w (StrideIn w 1)) (Literal32 (pos 5))) stop)) ≡ Fault
-  pub hidden_function : called (first (Array (Single I32) fill_name (pos 1)) (call_fill column)) ≡ Fault
-  pub not_above : called (first (CallOf (codes "f") (Control64 (Literal (pos 3)) ∷ Alone x ∷ [])) stop) ≡ Fault
+  pub no_such_stride :
+      called (first (Bind 1 I32 w (InArray x (Literal (pos 1))) (Literal (pos 1) ∷ []))
+      (first (Store I32 (InWindow w (StrideIn w 1)) (Literal32 (pos 5))) stop))
+      ≡ Fault
+  pub hidden_function :
+      called (first (Array (Single I32) fill_name (pos 1)) (call_fill column)) ≡ Fault
+  pub not_above :
+      called (first (CallOf (codes "f") (Control64 (Literal (pos 3)) ∷ Alone x ∷ [])) stop) ≡ Fault
   pub not_yet : called (first (Loop n (Named n) (Literal (pos 0)) stop) stop) ≡ Fault
 
 -- ---- vectors
@@ -176,11 +208,31 @@ from_cell ref = WindowOf 1 I32 ref (Literal (pos 1) ∷ [])
 -- moves eight cells of an array on the stack by the second of two vectors
 abbrev pub through_vectors : CBlock
 through_vectors =
-    first (Array (Single I32) w (pos 16)) (first (Store I32 (InArray w (Literal (pos 7))) (Literal32 (pos 9))) (vectors (pos 2) (first (Instruction 0 [] (from_cell (InArray v (Literal (pos 1))) ∷ from_cell (InArray w (Literal (pos 0))) ∷ [])) (first (Instruction 0 [] (from_cell (InArray w (Literal (pos 8))) ∷ from_cell (InArray v (Literal (pos 1))) ∷ [])) (first (Store I32 (InArray x (Literal (pos 0))) (Read32 (InArray w (Literal (pos 15))))) stop)))))
+    first (Array (Single I32) w (pos 16))
+    (first (Store I32 (InArray w (Literal (pos 7))) (Literal32 (pos 9)))
+    (vectors (pos 2)
+    (first (Instruction 0 []
+    (from_cell (InArray v (Literal (pos 1))) ∷ from_cell (InArray w (Literal (pos 0))) ∷ []))
+    (first (Instruction 0 []
+    (from_cell (InArray w (Literal (pos 8))) ∷ from_cell (InArray v (Literal (pos 1))) ∷ []))
+    (first (Store I32 (InArray x (Literal (pos 0)))
+    (Read32 (InArray w (Literal (pos 15))))) stop)))))
 
 pub record VectorsAreCells : Type 0 where
-  pub through : called_on (six I32) moves through_vectors ≡ hold (pos 9 ∷ pos 2 ∷ pos 3 ∷ pos 4 ∷ pos 5 ∷ pos 6 ∷ [])
-  pub no_cell : called (vectors (pos 1) (first (Store I32 (InArray v (Literal (pos 0))) (Literal32 (pos 1))) stop)) ≡ Fault
-  pub no_argument : called (vectors (pos 1) (call_fill (from_cell (InArray v (Literal (pos 0)))))) ≡ Fault
-  pub too_short : called_on (six I32) moves (vectors (pos 1) (first (Instruction 0 [] (from_cell (InArray v (Literal (pos 0))) ∷ from_cell (InArray x (Literal (pos 0))) ∷ [])) stop)) ≡ Fault
+  pub through :
+      called_on (six I32) moves through_vectors
+      ≡ hold (pos 9 ∷ pos 2 ∷ pos 3 ∷ pos 4 ∷ pos 5 ∷ pos 6 ∷ [])
+  pub no_cell :
+      called (vectors (pos 1)
+      (first (Store I32 (InArray v (Literal (pos 0))) (Literal32 (pos 1))) stop))
+      ≡ Fault
+  pub no_argument :
+      called (vectors (pos 1) (call_fill (from_cell (InArray v (Literal (pos 0)))))) ≡ Fault
+  pub too_short :
+      called_on (six I32) moves
+      (vectors (pos 1)
+      (first (Instruction 0 []
+      (from_cell (InArray v (Literal (pos 0)))
+      ∷ from_cell (InArray x (Literal (pos 0))) ∷ [])) stop))
+      ≡ Fault
   pub counted_in_cells : called (vectors (pos 35184372088833) stop) ≡ NoStore

@@ -1,6 +1,9 @@
 -- Inputs of procedures, and when one procedure refines another.
-use Rattle.std.specs.Prelude.{◌≡◌, ◌≢◌, ℕ, ℤ, pos, ◌≤ℤ◌, ◌+ℤ◌, ◌*ℤ◌, neg_ℤ, ◌-◌, ◌^◌, ◌==◌, Bool, true, false, ◌&&◌, ◌||◌, List, [], ◌∷◌, Option, Some, None, IsSome, Contains, ⊤}
-use Rattle.exo_tree.specs.Tree.{Cell, Kind, Size, Index, Truth, Stride, Param, ParamKind, ControlParam, TensorParam, WindowParam, Procedure}
+use Rattle.std.specs.Prelude.{◌≡◌, ◌≢◌, ℕ, ℤ, pos, ◌≤ℤ◌, ◌+ℤ◌, ◌*ℤ◌, neg_ℤ, ◌-◌, ◌^◌, ◌==◌, Bool}
+use Rattle.std.specs.Prelude.{true, false, ◌&&◌, ◌||◌, List, [], ◌∷◌, Option, Some, None, IsSome}
+use Rattle.std.specs.Prelude.{Contains, ⊤}
+use Rattle.exo_tree.specs.Tree.{Cell, Kind, Size, Index, Truth, Stride, Param, ParamKind}
+use Rattle.exo_tree.specs.Tree.{ControlParam, TensorParam, WindowParam, Procedure}
 use Rattle.exo_meaning.specs.Value.{Value, Undefined, Number, wrap, IsRefinedBy}
 use Rattle.exo_meaning.specs.Scene.{Shape, Scene, numbers, whole, where_true, cell_at}
 use Rattle.exo_meaning.specs.State.{State}
@@ -40,12 +43,19 @@ FitsCell cell (Number n) = wrap cell n ≡ n
 
 -- a buffer of these dimensions, seen whole
 abbrev pub IsBuffer : Scene → ℕ → Shape → Type 0
-IsBuffer scene x shape = (scene.buffers x ≡ Some shape) × (scene.views x ≡ Some (record { buffer = x; sides = whole shape.dims }))
+IsBuffer scene x shape =
+    (scene.buffers x ≡ Some shape)
+    × (scene.views x ≡ Some (record { buffer = x; sides = whole shape.dims }))
 
 abbrev pub IsArgument : Scene → ℕ → ParamKind → Type 0
-IsArgument scene x (ControlParam kind) = IsOfKind kind (scene.control x) × (scene.buffers x ≡ None) × (scene.views x ≡ None)
-IsArgument scene x (TensorParam cell dims memory) = IsBuffer scene x (record { cell = cell; dims = numbers scene dims; strides = row_major (numbers scene dims) })
-IsArgument scene x (WindowParam cell dims memory) = (strides : List ℤ) × IsBuffer scene x (record { cell = cell; dims = numbers scene dims; strides = strides })
+IsArgument scene x (ControlParam kind) =
+    IsOfKind kind (scene.control x) × (scene.buffers x ≡ None) × (scene.views x ≡ None)
+IsArgument scene x (TensorParam cell dims memory) =
+    IsBuffer scene x
+    (record { cell = cell; dims = numbers scene dims; strides = row_major (numbers scene dims) })
+IsArgument scene x (WindowParam cell dims memory) =
+    (strides : List ℤ)
+    × IsBuffer scene x (record { cell = cell; dims = numbers scene dims; strides = strides })
 
 abbrev pub AreArguments : Scene → List Param → Type 0
 AreArguments scene [] = ⊤
@@ -57,8 +67,15 @@ is_buffer_of x (p ∷ ps) = (x == p.binder.id) || is_buffer_of x ps
 
 pub record IsAdmissible (world : World) (p : Procedure) (s : State) : Type 0 where
   pub arguments : AreArguments s.scene p.params
-  pub no_others : (x : ℕ) → is_buffer_of x p.params ≡ false → (s.scene.control x ≡ pos 0) × (s.scene.buffers x ≡ None) × (s.scene.views x ≡ None)
-  pub cells : (b : ℕ) (shape : Shape) → s.scene.buffers b ≡ Some shape → (at : List ℤ) → FitsCell shape.cell (s.cells b at)
+  pub no_others :
+      (x : ℕ)
+      → is_buffer_of x p.params ≡ false
+      → (s.scene.control x ≡ pos 0) × (s.scene.buffers x ≡ None) × (s.scene.views x ≡ None)
+  pub cells :
+      (b : ℕ) (shape : Shape)
+      → s.scene.buffers b ≡ Some shape
+      → (at : List ℤ)
+      → FitsCell shape.cell (s.cells b at)
   pub tidy : (b : ℕ) → s.scene.buffers b ≡ None → (at : List ℤ) → s.cells b at ≡ Undefined
   pub fields : (f : ℕ) → IsOfKind (world.kinds f) (s.scene.fields f)
   pub asserts : all_hold s.scene p.asserts ≡ true
@@ -67,8 +84,23 @@ pub record IsAdmissible (world : World) (p : Procedure) (s : State) : Type 0 whe
 
 -- each cell after p is undefined or the same after q, and so is each field but those listed
 pub record Refines (world : World) (p q : Procedure) (but : List ℕ) : Type 0 where
-  pub cells : (s t u : State) → IsAdmissible world p s → run_procedure world p s ≡ Some t → run_procedure world q s ≡ Some u → (b : ℕ) → IsSome (s.scene.buffers b) → (at : List ℤ) → IsRefinedBy (t.cells b at) (u.cells b at)
-  pub fields : (s t u : State) → IsAdmissible world p s → run_procedure world p s ≡ Some t → run_procedure world q s ≡ Some u → (f : ℕ) → (Contains but f → ⊥) → t.scene.fields f ≡ u.scene.fields f
+  pub cells :
+      (s t u : State)
+      → IsAdmissible world p s
+      → run_procedure world p s ≡ Some t
+      → run_procedure world q s ≡ Some u
+      → (b : ℕ)
+      → IsSome (s.scene.buffers b)
+      → (at : List ℤ)
+      → IsRefinedBy (t.cells b at) (u.cells b at)
+  pub fields :
+      (s t u : State)
+      → IsAdmissible world p s
+      → run_procedure world p s ≡ Some t
+      → run_procedure world q s ≡ Some u
+      → (f : ℕ)
+      → (Contains but f → ⊥)
+      → t.scene.fields f ≡ u.scene.fields f
 
 -- ---- valid inputs
 
@@ -104,7 +136,25 @@ pub record IsValid (world : World) (p : Procedure) (s : State) : Type 0 where
   pub admissible : IsAdmissible world p s
   pub bounded : AreBounded s.scene p.params
   pub fields : (f : ℕ) → IsBetween (neg_ℤ (pos (2 ^ 48))) (pos (2 ^ 48)) (s.scene.fields f)
-  pub cells : (b : ℕ) (shape : Shape) → s.scene.buffers b ≡ Some shape → product shape.dims ≤ℤ pos (2 ^ 48)
-  pub strides : (b : ℕ) (shape : Shape) → s.scene.buffers b ≡ Some shape → Each (IsBetween (pos 0) (pos (2 ^ 48))) shape.strides
-  pub separate : (b : ℕ) (shape : Shape) → s.scene.buffers b ≡ Some shape → (i j : List ℤ) → IsIndex shape.dims i → IsIndex shape.dims j → offset shape.strides i ≡ offset shape.strides j → i ≡ j
-  pub defined : (b : ℕ) (shape : Shape) → s.scene.buffers b ≡ Some shape → (at : List ℤ) → IsIndex shape.dims at → s.cells b at ≢ Undefined
+  pub cells :
+      (b : ℕ) (shape : Shape)
+      → s.scene.buffers b ≡ Some shape
+      → product shape.dims ≤ℤ pos (2 ^ 48)
+  pub strides :
+      (b : ℕ) (shape : Shape)
+      → s.scene.buffers b ≡ Some shape
+      → Each (IsBetween (pos 0) (pos (2 ^ 48))) shape.strides
+  pub separate :
+      (b : ℕ) (shape : Shape)
+      → s.scene.buffers b ≡ Some shape
+      → (i j : List ℤ)
+      → IsIndex shape.dims i
+      → IsIndex shape.dims j
+      → offset shape.strides i ≡ offset shape.strides j
+      → i ≡ j
+  pub defined :
+      (b : ℕ) (shape : Shape)
+      → s.scene.buffers b ≡ Some shape
+      → (at : List ℤ)
+      → IsIndex shape.dims at
+      → s.cells b at ≢ Undefined
