@@ -129,7 +129,7 @@ six cell = record {
     objects =
         λ o. if o == 0 then Some (record { cell = cell; size = pos 6; heap = false }) else None;
     free = 1;
-    fields = λ y. pos 0
+    fields = λ y. pos 0;
   };
   contents = λ o k. if o == 0 then Number (k +ℤ pos 1) else Undefined;
 }
