@@ -7,8 +7,12 @@ ghost use Rattle.exo_tree.specs.Tree as tree;
 ghost use Rattle.exo_tree.specs.PlainBinder.{control_kind};
 ghost use Rattle.exo_tree.specs.PlainPlace.{step_taken};
 ghost use Rattle.exo_tree.specs.Places.{same_step, same_path};
-ghost use Rattle.affine_forms.specs.Atoms.{same_kind, same_atom, same_terms, taken, with_term, terms_added, terms_scaled, present, divides, divided, undivided};
-ghost use Rattle.affine_forms.specs.TermBounds.{is_kept_atom, are_kept, joined_terms, term_if, raised, first_that, is_sought, is_wanted, count, is_none, without_term};
+ghost use Rattle.affine_forms.specs.Atoms.{same_kind, same_atom, same_terms, taken, with_term};
+ghost use Rattle.affine_forms.specs.Atoms.{terms_added, terms_scaled, present, divides, divided};
+ghost use Rattle.affine_forms.specs.Atoms.{undivided};
+ghost use Rattle.affine_forms.specs.TermBounds.{is_kept_atom, are_kept, joined_terms, term_if};
+ghost use Rattle.affine_forms.specs.TermBounds.{raised, first_that, is_sought, is_wanted, count};
+ghost use Rattle.affine_forms.specs.TermBounds.{is_none, without_term};
 ghost use Rattle.affine_forms.specs.Forms.{is_within, are_within, is_short, are_short};
 ghost use Rattle.affine_forms.specs.PlainAtoms.{plain_atom, plain_terms};
 
@@ -146,7 +150,9 @@ impl Terms {
         coefficient: i128,
         atom: &Atom,
     ) -> Result<bool, AllocError>
-        ensures { IfOk result (λ found. taken (same_atom (plain_atom atom.now)) coefficient self.old ≡ (if found then Some self.new else None)) }
+        ensures { IfOk result
+            (λ found. taken (same_atom (plain_atom atom.now)) coefficient self.old
+            ≡ (if found then Some self.new else None)) }
     {
         match self.place_of(alloc, atom, Some(coefficient))? {
             Some(k) => {

@@ -35,7 +35,11 @@ pub trait FlagReader: Reader {
 /// The formula that the left side is less than the right.
 fn less<R: Reader>(alloc: Global, reader: &R, a: &Ctrl, b: &Ctrl) -> Result<Formula, FormError>
     requires { IsTrue (keeps_rules (control a.now) && keeps_rules (control b.now)) }
-    ensures { FormulaMade result (is_writable (R.reading reader.now) (control a.now) && is_writable (R.reading reader.now) (control b.now)) (less (forms.normal (R.reading reader.now) (control a.now)) (forms.normal (R.reading reader.now) (control b.now))) }
+    ensures { FormulaMade result
+        (is_writable (R.reading reader.now) (control a.now)
+        && is_writable (R.reading reader.now) (control b.now))
+        (less (forms.normal (R.reading reader.now) (control a.now))
+        (forms.normal (R.reading reader.now) (control b.now))) }
 {
     let left = normal_form(alloc, reader, a)?;
     let right = normal_form(alloc, reader, b)?;
@@ -45,7 +49,11 @@ fn less<R: Reader>(alloc: Global, reader: &R, a: &Ctrl, b: &Ctrl) -> Result<Form
 /// The formula that the left side is at most the right.
 fn at_most<R: Reader>(alloc: Global, reader: &R, a: &Ctrl, b: &Ctrl) -> Result<Formula, FormError>
     requires { IsTrue (keeps_rules (control a.now) && keeps_rules (control b.now)) }
-    ensures { FormulaMade result (is_writable (R.reading reader.now) (control a.now) && is_writable (R.reading reader.now) (control b.now)) (at_most (forms.normal (R.reading reader.now) (control a.now)) (forms.normal (R.reading reader.now) (control b.now))) }
+    ensures { FormulaMade result
+        (is_writable (R.reading reader.now) (control a.now)
+        && is_writable (R.reading reader.now) (control b.now))
+        (at_most (forms.normal (R.reading reader.now) (control a.now))
+        (forms.normal (R.reading reader.now) (control b.now))) }
 {
     let left = normal_form(alloc, reader, a)?;
     let right = normal_form(alloc, reader, b)?;
@@ -55,7 +63,11 @@ fn at_most<R: Reader>(alloc: Global, reader: &R, a: &Ctrl, b: &Ctrl) -> Result<F
 /// The formula that the sides have one value.
 fn equal<R: Reader>(alloc: Global, reader: &R, a: &Ctrl, b: &Ctrl) -> Result<Formula, FormError>
     requires { IsTrue (keeps_rules (control a.now) && keeps_rules (control b.now)) }
-    ensures { FormulaMade result (is_writable (R.reading reader.now) (control a.now) && is_writable (R.reading reader.now) (control b.now)) (equal (forms.normal (R.reading reader.now) (control a.now)) (forms.normal (R.reading reader.now) (control b.now))) }
+    ensures { FormulaMade result
+        (is_writable (R.reading reader.now) (control a.now)
+        && is_writable (R.reading reader.now) (control b.now))
+        (equal (forms.normal (R.reading reader.now) (control a.now))
+        (forms.normal (R.reading reader.now) (control b.now))) }
 {
     let left = normal_form(alloc, reader, a)?;
     let right = normal_form(alloc, reader, b)?;
@@ -65,7 +77,9 @@ fn equal<R: Reader>(alloc: Global, reader: &R, a: &Ctrl, b: &Ctrl) -> Result<For
 /// The formula of a condition.
 pub fn formula_of<R: FlagReader>(alloc: Global, reader: &R, c: &Cond) -> Result<Formula, FormError>
     requires { IsTrue (condition_keeps_rules (condition c.now)) }
-    ensures { FormulaMade result (is_writable_condition (R.reading reader.now) (R.flag_fits reader.now) (condition c.now)) (formula (R.reading reader.now) (R.flags reader.now) (condition c.now)) }
+    ensures { FormulaMade result
+        (is_writable_condition (R.reading reader.now) (R.flag_fits reader.now) (condition c.now))
+        (formula (R.reading reader.now) (R.flags reader.now) (condition c.now)) }
 {
     match c {
         Cond::True => Ok(Formula::always(alloc)),

@@ -41,7 +41,8 @@ impl Draft {
     /// The form of that constant and sum, where their numbers fit.
     fn new(constant: i128, terms: Terms) -> Result<Draft, FormError>
         requires { IsTrue (are_distinct terms) }
-        ensures { Formed result (is_short_form (record { constant = constant; terms = terms })) (record { constant = constant; terms = terms }) }
+        ensures { Formed result (is_short_form (record { constant = constant; terms = terms }))
+            (record { constant = constant; terms = terms }) }
     {
         if is_short(constant) && terms.are_short() {
             Ok(Draft { constant, terms })
@@ -151,7 +152,10 @@ impl Draft {
     /// The quotient by a literal, multiplied by it again.
     pub fn multiple(&self, alloc: Global, by: i64) -> Result<Draft, FormError>
         requires { IsTrue (is_positive by) }
-        ensures { Formed result (is_short_form (quotient self.now by) && is_short_form (scaled by (quotient self.now by))) (scaled by (quotient self.now by)) }
+        ensures { Formed result
+            (is_short_form (quotient self.now by)
+            && is_short_form (scaled by (quotient self.now by)))
+            (scaled by (quotient self.now by)) }
     {
         let q = self.quotient(alloc, by)?;
         q.scaled(alloc, by as i128)
@@ -189,7 +193,12 @@ impl Model for Linear {
 
     ghost view = { λ l. record { constant = l.constant; terms = l.terms } };
 
-    ghost invariant = { λ l. IsTrue (is_short_form (record { constant = l.constant; terms = l.terms })) × IsTrue (are_distinct l.terms) × IsTrue (are_present l.terms) };
+    ghost invariant = { λ l. IsTrue (is_short_form (record {
+      constant = l.constant;
+      terms = l.terms;
+    }))
+        × IsTrue (are_distinct l.terms)
+        × IsTrue (are_present l.terms) };
 }
 
 impl Linear {

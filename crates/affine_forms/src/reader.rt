@@ -25,11 +25,16 @@ pub trait Reader {
 
     /// The form of a configuration field.
     fn field(&self, alloc: Global, f: FieldId) -> Result<Draft, FormError>
-        ensures { Formed result ((reading self.now).field_fits f.0 && is_short_form ((reading self.now).field f.0)) ((reading self.now).field f.0) };
+        ensures { Formed result
+            ((reading self.now).field_fits f.0 && is_short_form ((reading self.now).field f.0))
+            ((reading self.now).field f.0) };
 
     /// The form of the stride of a buffer's dimension.
     fn stride(&self, alloc: Global, x: Id, k: u32) -> Result<Draft, FormError>
-        ensures { Formed result ((reading self.now).stride_fits x.0 k && is_short_form ((reading self.now).stride x.0 k)) ((reading self.now).stride x.0 k) };
+        ensures { Formed result
+            ((reading self.now).stride_fits x.0 k
+            && is_short_form ((reading self.now).stride x.0 k))
+            ((reading self.now).stride x.0 k) };
 }
 
 /// Whether the expression is built of literals alone.
@@ -64,7 +69,10 @@ pub fn times(alloc: Global, by_left: bool, left: &Draft, right: &Draft) -> Resul
 /// What is left of a form by a literal: the form less the literal times their quotient.
 fn remainder(alloc: Global, l: Draft, by: i64) -> Result<Draft, FormError>
     requires { IsTrue (is_positive by) }
-    ensures { Formed result ((is_short_form (quotient l by) && is_short_form (scaled by (quotient l by))) && is_short_form (subtracted l (scaled by (quotient l by)))) (subtracted l (scaled by (quotient l by))) }
+    ensures { Formed result
+        ((is_short_form (quotient l by) && is_short_form (scaled by (quotient l by)))
+        && is_short_form (subtracted l (scaled by (quotient l by))))
+        (subtracted l (scaled by (quotient l by))) }
 {
     let multiple = l.multiple(alloc, by)?;
     l.minus(alloc, &multiple)

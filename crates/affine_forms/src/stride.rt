@@ -3,7 +3,9 @@ ghost use Rattle.std.specs.Prelude.{◌≡◌, ◌<◌, IsTrue, length, map};
 ghost use Rattle.exo_tree.specs.PlainControl.{control};
 ghost use Rattle.affine_forms.specs.Outcomes.{Formed};
 ghost use Rattle.affine_forms.specs.Forms.{is_short_form};
-ghost use Rattle.affine_forms.specs.Strides.{is_number, are_numbers, is_one_open, product_form, product_fits, dense_stride, dense_stride_fits, all_keep_rules};
+ghost use Rattle.affine_forms.specs.Strides.{is_number, are_numbers, is_one_open, product_form};
+ghost use Rattle.affine_forms.specs.Strides.{product_fits, dense_stride, dense_stride_fits};
+ghost use Rattle.affine_forms.specs.Strides.{all_keep_rules};
 
 use crate::atom::Atom;
 use crate::error::FormError;
@@ -63,7 +65,8 @@ pub fn extent_product<R: Reader>(
     extents: &[Ctrl],
 ) -> Result<Draft, FormError>
     requires { IsTrue (all_keep_rules (map control extents.now)) }
-    ensures { Formed result (product_fits (R.reading reader.now) (map control extents.now)) (product_form (R.reading reader.now) (map control extents.now)) }
+    ensures { Formed result (product_fits (R.reading reader.now) (map control extents.now))
+        (product_form (R.reading reader.now) (map control extents.now)) }
 {
     match extents.split_first() {
         None => Draft::constantly(alloc, 1),
@@ -86,7 +89,9 @@ pub fn dense_stride<R: Reader>(
 ) -> Result<Draft, FormError>
     requires inside { k < length extents.now }
     requires rules { IsTrue (all_keep_rules (map control extents.now)) }
-    ensures { Formed result (dense_stride_fits (R.reading reader.now) k (map control extents.now)) (dense_stride (R.reading reader.now) root.0 k (map control extents.now)) }
+    ensures { Formed result
+        (dense_stride_fits (R.reading reader.now) k (map control extents.now))
+        (dense_stride (R.reading reader.now) root.0 k (map control extents.now)) }
 {
     let later = &extents[k as usize + 1..];
     if is_one_open(later) {

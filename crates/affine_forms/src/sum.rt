@@ -34,7 +34,10 @@ impl Model for Sum {
 
     ghost view = { λ s. record { constant = s.constant; terms = s.terms } };
 
-    ghost invariant = { λ s. IsTrue (is_row_constant s.constant) × IsTrue (are_within (2 ^ 64) s.terms) × IsTrue (are_distinct s.terms) × IsTrue (are_present s.terms) };
+    ghost invariant = { λ s. IsTrue (is_row_constant s.constant)
+        × IsTrue (are_within (2 ^ 64) s.terms)
+        × IsTrue (are_distinct s.terms)
+        × IsTrue (are_present s.terms) };
 }
 
 /// The terms of two forms, without those that cancel.
@@ -148,7 +151,10 @@ impl Model for Equation {
 
     ghost view = { λ s. record { constant = s.constant; terms = s.terms } };
 
-    ghost invariant = { λ s. IsTrue (is_within (2 ^ 63) s.constant) × IsTrue (are_within (2 ^ 64) s.terms) × IsTrue (are_distinct s.terms) × IsTrue (are_present s.terms) };
+    ghost invariant = { λ s. IsTrue (is_within (2 ^ 63) s.constant)
+        × IsTrue (are_within (2 ^ 64) s.terms)
+        × IsTrue (are_distinct s.terms)
+        × IsTrue (are_present s.terms) };
 }
 
 impl Equation {

@@ -182,7 +182,11 @@ impl System {
     /// The system of equations and rows over `vars` variables, or `None` where it would have more than 64 variables,
     /// more than 512 equations and rows together, or a variable that is not below `vars`.
     pub fn try_new(vars: u32, equations: Vec<Row>, rows: Vec<Row>) -> Option<System>
-        ensures fits { is_some result ≡ (nat_le vars 64 && (nat_le (length equations.items + length rows.items) 512 && (are_below vars (map (λ r. map (λ t. t.variable) r.terms.items) equations.items) && are_below vars (map (λ r. map (λ t. t.variable) r.terms.items) rows.items)))) }
+        ensures fits { is_some result
+            ≡ (nat_le vars 64
+            && (nat_le (length equations.items + length rows.items) 512
+            && (are_below vars (map (λ r. map (λ t. t.variable) r.terms.items) equations.items)
+            && are_below vars (map (λ r. map (λ t. t.variable) r.terms.items) rows.items)))) }
         ensures system { IfSome result (λ s. (s.vars ≡ vars) × (s.equations ≡ equations) × (s.rows ≡ rows)) }
     {
         let few = vars <= MOST_VARIABLES

@@ -8,7 +8,9 @@ ghost use Rattle.exo_tree.specs.PlainProcedure.{procedure};
 ghost use Rattle.exo_tree.specs.PlainUnit.{program};
 ghost use Rattle.affine_forms.specs.Forms.{is_affine};
 ghost use Rattle.affine_forms.specs.Strides.{all_affine};
-ghost use Rattle.affine_places.specs.Roots.{variables, are_extents, kind_has_extents, params_have_extents, block_has_extents, statement_has_extents, has_extents, unit_has_extents};
+ghost use Rattle.affine_places.specs.Roots.{variables, are_extents, kind_has_extents};
+ghost use Rattle.affine_places.specs.Roots.{params_have_extents, block_has_extents};
+ghost use Rattle.affine_places.specs.Roots.{statement_has_extents, has_extents, unit_has_extents};
 
 use affine_forms::is_of_literals;
 use exo_tree::{Block, Ctrl, Indices, ParamKind, Params, Proc, ProcId, Stmt, Unit};

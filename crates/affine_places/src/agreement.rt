@@ -3,7 +3,9 @@ ghost use Rattle.std.specs.Prelude.{◌≡◌, ◌&&◌, IsTrue, option_map};
 ghost use Rattle.exo_tree.specs.PlainControl.{control, condition};
 ghost use Rattle.affine_forms.specs.Forms.{keeps_rules};
 ghost use Rattle.affine_forms.specs.Formulas.{condition_keeps_rules};
-ghost use Rattle.affine_places.specs.Agreement.{agree, agreement_fits, sides_agree, sides_fit, is_flag, is_field_flag, and_halves, or_halves, Tested};
+ghost use Rattle.affine_places.specs.Agreement.{agree, agreement_fits, sides_agree, sides_fit};
+ghost use Rattle.affine_places.specs.Agreement.{is_flag, is_field_flag, and_halves, or_halves};
+ghost use Rattle.affine_places.specs.Agreement.{Tested};
 ghost use Rattle.affine_places.specs.Agreement.{comparisons_agree, comparisons_fit, conditions_agree, conditions_fit};
 
 use affine_forms::{FormError, Reader, normal_form};
@@ -13,7 +15,9 @@ use std::alloc::Global;
 /// Whether two expressions agree: their normal forms are equal, as sums in any order.
 pub fn agree<R: Reader>(alloc: Global, reader: &R, a: &Ctrl, b: &Ctrl) -> Result<bool, FormError>
     requires { IsTrue (keeps_rules (control a.now) && keeps_rules (control b.now)) }
-    ensures { Tested result (agreement_fits (R.reading reader.now) (control a.now) (control b.now)) (agree (R.reading reader.now) (control a.now) (control b.now)) }
+    ensures { Tested result
+        (agreement_fits (R.reading reader.now) (control a.now) (control b.now))
+        (agree (R.reading reader.now) (control a.now) (control b.now)) }
 {
     let left = normal_form(alloc, reader, a)?;
     let right = normal_form(alloc, reader, b)?;
@@ -32,7 +36,11 @@ fn sides_agree<R: Reader>(
 ) -> Result<bool, FormError>
     requires first { IsTrue (keeps_rules (control a.now) && keeps_rules (control b.now)) }
     requires second { IsTrue (keeps_rules (control x.now) && keeps_rules (control y.now)) }
-    ensures { Tested result (sides_fit (R.reading reader.now) (control a.now) (control b.now) (control x.now) (control y.now)) (sides_agree (R.reading reader.now) (control a.now) (control b.now) (control x.now) (control y.now)) }
+    ensures { Tested result
+        (sides_fit (R.reading reader.now) (control a.now) (control b.now) (control x.now)
+        (control y.now))
+        (sides_agree (R.reading reader.now) (control a.now) (control b.now) (control x.now)
+        (control y.now)) }
 {
     let left = agree(alloc, reader, a, x)?;
     let right = agree(alloc, reader, b, y)?;
@@ -89,7 +97,9 @@ fn comparisons_agree<R: Reader>(
 ) -> Result<bool, FormError>
     requires first { IsTrue (condition_keeps_rules (condition c.now)) }
     requires second { IsTrue (condition_keeps_rules (condition d.now)) }
-    ensures { Tested result (comparisons_fit (R.reading reader.now) (condition c.now) (condition d.now)) (comparisons_agree (R.reading reader.now) (condition c.now) (condition d.now)) }
+    ensures { Tested result
+        (comparisons_fit (R.reading reader.now) (condition c.now) (condition d.now))
+        (comparisons_agree (R.reading reader.now) (condition c.now) (condition d.now)) }
 {
     match c {
         Cond::Lt(a, b) => match d {
@@ -125,7 +135,9 @@ pub fn conditions_agree<R: Reader>(
     d: &Cond,
 ) -> Result<bool, FormError>
     requires { IsTrue (condition_keeps_rules (condition c.now) && condition_keeps_rules (condition d.now)) }
-    ensures { Tested result (conditions_fit (R.reading reader.now) (condition c.now) (condition d.now)) (conditions_agree (R.reading reader.now) (condition c.now) (condition d.now)) }
+    ensures { Tested result
+        (conditions_fit (R.reading reader.now) (condition c.now) (condition d.now))
+        (conditions_agree (R.reading reader.now) (condition c.now) (condition d.now)) }
 {
     match c {
         Cond::True => Ok(matches!(d, Cond::True)),

@@ -36,7 +36,10 @@ impl Reader for InExtent {
 /// The stride of a dimension of a dense root; 0 where it has no such dimension.
 fn dense(alloc: Global, root: Id, d: u32, list: &Indices) -> Result<Draft, FormError>
     requires { IsTrue (are_extents list.now) }
-    ensures { Formed result (root_stride_fits d (Dense list.now) && is_short_form (root_stride root.0 d (Dense list.now))) (root_stride root.0 d (Dense list.now)) }
+    ensures { Formed result
+        (root_stride_fits d (Dense list.now)
+        && is_short_form (root_stride root.0 d (Dense list.now)))
+        (root_stride root.0 d (Dense list.now)) }
 {
     let extents = list.as_slice();
     if (d as usize) < extents.len() {
@@ -48,7 +51,10 @@ fn dense(alloc: Global, root: Id, d: u32, list: &Indices) -> Result<Draft, FormE
 
 /// The stride of a root's dimension.
 fn root_stride(alloc: Global, root: Id, d: u32, layout: Layout<'_>) -> Result<Draft, FormError>
-    ensures { Formed result (root_stride_fits d (plain_layout layout.entry) && is_short_form (root_stride root.0 d (plain_layout layout.entry))) (root_stride root.0 d (plain_layout layout.entry)) }
+    ensures { Formed result
+        (root_stride_fits d (plain_layout layout.entry)
+        && is_short_form (root_stride root.0 d (plain_layout layout.entry)))
+        (root_stride root.0 d (plain_layout layout.entry)) }
 {
     match layout {
         Layout::Dense(extents) => dense(alloc, root, d, extents.list),
@@ -61,7 +67,10 @@ fn root_stride(alloc: Global, root: Id, d: u32, layout: Layout<'_>) -> Result<Dr
 
 /// The stride of a name's coordinate: that of the root's dimension over which the coordinate runs.
 pub(crate) fn stride_of(alloc: Global, roots: &Roots<'_>, x: Id, k: u32) -> Result<Draft, FormError>
-    ensures { Formed result (stride_of_fits (roots_in roots.now x.0) k && is_short_form (stride_of (roots_in roots.now x.0) k)) (stride_of (roots_in roots.now x.0) k) }
+    ensures { Formed result
+        (stride_of_fits (roots_in roots.now x.0) k
+        && is_short_form (stride_of (roots_in roots.now x.0) k))
+        (stride_of (roots_in roots.now x.0) k) }
 {
     let Some(seen) = roots.get(x) else {
         return Draft::constantly(alloc, 0);

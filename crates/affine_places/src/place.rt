@@ -34,7 +34,11 @@ fn known(
     value: &Arg,
 ) -> Result<Draft, FormError>
     requires { IsTrue (fact_keeps_rules (plain.Known (argument value.now))) }
-    ensures { Formed result (field_fits fields.now (roots_in roots.now) (Some (plain.Known (argument value.now))) && is_short_form (field_form fields.now (roots_in roots.now) f.0 (Some (plain.Known (argument value.now))))) (field_form fields.now (roots_in roots.now) f.0 (Some (plain.Known (argument value.now)))) }
+    ensures { Formed result
+        (field_fits fields.now (roots_in roots.now) (Some (plain.Known (argument value.now)))
+        && is_short_form (field_form fields.now (roots_in roots.now) f.0
+        (Some (plain.Known (argument value.now)))))
+        (field_form fields.now (roots_in roots.now) f.0 (Some (plain.Known (argument value.now)))) }
 {
     match value {
         Arg::Ctrl(e) => form(alloc, &AtEntry { fields, roots }, e),
@@ -83,7 +87,11 @@ fn known_flag(
     value: &Arg,
 ) -> Result<Formula, FormError>
     requires { IsTrue (fact_keeps_rules (plain.Known (argument value.now))) }
-    ensures { FormulaMade result (field_formula_fits fields.now (roots_in roots.now) (Some (plain.Known (argument value.now)))) (field_formula fields.now (roots_in roots.now) f.0 (Some (plain.Known (argument value.now)))) }
+    ensures { FormulaMade result
+        (field_formula_fits fields.now (roots_in roots.now)
+        (Some (plain.Known (argument value.now))))
+        (field_formula fields.now (roots_in roots.now) f.0
+        (Some (plain.Known (argument value.now)))) }
 {
     match value {
         Arg::Cond(c) => formula_of(alloc, &AtEntry { fields, roots }, c),

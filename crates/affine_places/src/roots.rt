@@ -7,7 +7,11 @@ ghost use Rattle.exo_tree.specs.PlainStatement.{statement};
 ghost use Rattle.exo_tree.specs.PlainProcedure.{procedure};
 ghost use Rattle.exo_tree.specs.PlainUnit.{program};
 ghost use Rattle.affine_places.specs.Roots as plain;
-ghost use Rattle.affine_places.specs.Roots.{no_roots, own_root, with_root, with_kind, with_params, with_view, with_block, with_statement, roots_of, are_extents, kind_has_extents, params_have_extents, block_has_extents, statement_has_extents, has_extents, unit_roots, unit_has_extents};
+ghost use Rattle.affine_places.specs.Roots.{no_roots, own_root, with_root, with_kind, with_params};
+ghost use Rattle.affine_places.specs.Roots.{with_view, with_block, with_statement, roots_of};
+ghost use Rattle.affine_places.specs.Roots.{are_extents, kind_has_extents, params_have_extents};
+ghost use Rattle.affine_places.specs.Roots.{block_has_extents, statement_has_extents, has_extents};
+ghost use Rattle.affine_places.specs.Roots.{unit_roots, unit_has_extents};
 ghost use Rattle.affine_places.specs.Seen.{plain_layout, plain_root, roots_in};
 
 use crate::layout::{Extents, Layout};
@@ -66,7 +70,10 @@ impl<'a> Roots<'a> {
         list: &Indices,
     ) -> Result<(), AllocError>
         requires { IsTrue (are_extents list.now) }
-        ensures { OnOk result (roots_in self.new ≡ with_root x.0 (own_root x.0 (plain_layout layout.entry) (length list.now)) (roots_in self.old)) }
+        ensures { OnOk result
+            (roots_in self.new
+            ≡ with_root x.0 (own_root x.0 (plain_layout layout.entry) (length list.now))
+            (roots_in self.old)) }
     {
         let dims = first_dims(alloc, list.len() as u32)?;
         let rooted = Rooted {

@@ -27,7 +27,9 @@ pub fn normal(
 ) -> Result<Linear, FormError>
     requires extents { IsTrue (unit_has_extents (program unit.now) p.0) }
     requires rules { IsTrue (keeps_rules (control e.now)) }
-    ensures { Formed result (is_writable (unit_reading (program unit.now) p.0 facts.now) (control e.now)) (forms.normal (unit_reading (program unit.now) p.0 facts.now) (control e.now)) }
+    ensures { Formed result
+        (is_writable (unit_reading (program unit.now) p.0 facts.now) (control e.now))
+        (forms.normal (unit_reading (program unit.now) p.0 facts.now) (control e.now)) }
 {
     let roots = Roots::of_unit(alloc, unit, p)?;
     let at = AtPlace {

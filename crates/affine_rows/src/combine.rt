@@ -46,7 +46,10 @@ fn combine_with(
     requires wide { AreWide (length p.now.coefficients) upper.now }
     requires below { v < length p.now.coefficients }
     requires lower { IsTrue (is_lower_bound v p.now) }
-    ensures { IfOk result (λ narrow. (narrow ≡ list_all (is_narrow_combination v p.now) upper.now) × (IsTrue narrow → next.new.items ≡ next.old.items ++ map (combination v p.now) upper.now)) }
+    ensures { IfOk result
+        (λ narrow. (narrow ≡ list_all (is_narrow_combination v p.now) upper.now)
+        × (IsTrue narrow
+        → next.new.items ≡ next.old.items ++ map (combination v p.now) upper.now)) }
 {
     for q in upper {
         match combination(alloc, v, p, q)? {
@@ -71,7 +74,12 @@ pub fn combine_all(
     requires wide_upper { AreWide n upper.now }
     requires below { v < n }
     requires lower { All (λ p. IsTrue (is_lower_bound v p)) lower.now }
-    ensures { IfOk result (λ narrow. (narrow ≡ list_all (λ p. list_all (is_narrow_combination v p) upper.now) lower.now) × (IsTrue narrow → next.new.items ≡ next.old.items ++ flat_map (λ p. map (combination v p) upper.now) lower.now)) }
+    ensures { IfOk result
+        (λ narrow. (narrow
+        ≡ list_all (λ p. list_all (is_narrow_combination v p) upper.now) lower.now)
+        × (IsTrue narrow
+        → next.new.items
+        ≡ next.old.items ++ flat_map (λ p. map (combination v p) upper.now) lower.now)) }
 {
     for p in lower {
         if !combine_with(alloc, v, p, upper, next)? {

@@ -18,7 +18,11 @@ pub fn substitute(
     requires wide { AreWide (length e.now.coefficients) rows.items }
     requires below { v < length e.now.coefficients }
     requires unit { IsTrue (is_unit (coefficient e.now v)) }
-    ensures { IfOk result (λ r. option_map (λ v. v.items) r ≡ (if list_all (is_narrow_substituted v e.now) rows.items then Some (map (substituted v e.now) rows.items) else None)) }
+    ensures { IfOk result
+        (λ r. option_map (λ v. v.items) r
+        ≡ (if list_all (is_narrow_substituted v e.now) rows.items
+        then Some (map (substituted v e.now) rows.items)
+        else None)) }
 {
     let mut next = Vec::with_capacity(alloc, rows.len())?;
     for row in rows {

@@ -1,5 +1,6 @@
 //! Lists of coefficients.
-ghost use Rattle.std.specs.Prelude.{◌≡◌, Some, None, if◌then◌else◌, map, pos, ◌<ℤ◌, length, IfOk, unsigned_abs, ◌≤◌, ◌^◌, OnSome, neg_ℤ, IsTrue, slice_index_or};
+ghost use Rattle.std.specs.Prelude.{◌≡◌, Some, None, if◌then◌else◌, map, pos, ◌<ℤ◌, length, IfOk};
+ghost use Rattle.std.specs.Prelude.{unsigned_abs, ◌≤◌, ◌^◌, OnSome, neg_ℤ, IsTrue, slice_index_or};
 ghost use Rattle.affine_rows.specs.Shapes.{AreNarrow};
 ghost use Rattle.std.specs.Int.{int_div_euclid};
 ghost use Rattle.std.specs.List.{All, list_all};
@@ -58,7 +59,11 @@ pub fn weighed_lists(
     ys: &[i128],
 ) -> Result<Option<Vec<i128>>, AllocError>
     requires { length xs.now ≡ length ys.now }
-    ensures { IfOk result (λ r. option_map (λ v. v.items) r ≡ (if are_narrow_weighed f xs.now g ys.now then Some (weighed_lists f xs.now g ys.now) else None)) }
+    ensures { IfOk result
+        (λ r. option_map (λ v. v.items) r
+        ≡ (if are_narrow_weighed f xs.now g ys.now
+        then Some (weighed_lists f xs.now g ys.now)
+        else None)) }
 {
     let mut out = Vec::with_capacity(alloc, xs.len())?;
     for i in 0..xs.len() {

@@ -1,9 +1,13 @@
 //! Dense rows: one coefficient per variable.
-ghost use Rattle.std.specs.Prelude.{◌≡◌, ◌<◌, ◌≤◌, ◌^◌, ◌+◌, ◌-◌, reverse, length, Some, None, if◌then◌else◌, IfOk, unsigned_abs, ℤ, pos, IsTrue};
+ghost use Rattle.std.specs.Prelude.{◌≡◌, ◌<◌, ◌≤◌, ◌^◌, ◌+◌, ◌-◌, reverse, length, Some, None};
+ghost use Rattle.std.specs.Prelude.{if◌then◌else◌, IfOk, unsigned_abs, ℤ, pos, IsTrue};
 ghost use Rattle.std.specs.List.{AllByRecursion, position, position_or_len};
 ghost use Rattle.std.specs.Int.{int_min};
 ghost use Rattle.affine_rows.specs.Shapes.{IsNarrow, AreNarrow, is_present};
-ghost use Rattle.affine_rows.specs.Rows.{gcd_of, coefficient, is_constant, tightened, same_list, without, combined, is_narrow_combined, is_unit, has_unit, unit_place, substituted, is_narrow_substituted, solving_factor, negated};
+ghost use Rattle.affine_rows.specs.Rows.{gcd_of, coefficient, is_constant, tightened, same_list};
+ghost use Rattle.affine_rows.specs.Rows.{without, combined, is_narrow_combined, is_unit, has_unit};
+ghost use Rattle.affine_rows.specs.Rows.{unit_place, substituted, is_narrow_substituted};
+ghost use Rattle.affine_rows.specs.Rows.{solving_factor, negated};
 
 use crate::list::{
     add_times, all_zero, divide_all, gcd_of, negated_list, number_at, weighed_lists,

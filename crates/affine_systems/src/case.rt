@@ -63,7 +63,10 @@ fn push_each<'a>(
     others: &[Case<'a>],
     made: &mut Vec<Case<'a>>,
 ) -> Result<(), AllocError>
-    ensures { OnOk result (plain_cases made.new.items ≡ plain_cases made.old.items ++ map (λ k. map plain_constraint case.now ++ k) (plain_cases others.now)) }
+    ensures { OnOk result
+        (plain_cases made.new.items
+        ≡ plain_cases made.old.items
+        ++ map (λ k. map plain_constraint case.now ++ k) (plain_cases others.now)) }
 {
     for other in others {
         let both = joined(alloc, case, other)?;

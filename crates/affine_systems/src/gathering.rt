@@ -6,7 +6,10 @@ ghost use Rattle.affine_forms.specs.Bounds.{is_narrow};
 ghost use Rattle.affine_forms.specs.Forms.{are_within};
 ghost use Rattle.affine_forms.specs.TermBounds.{is_kept_atom, are_distinct};
 ghost use Rattle.affine_forms.specs.PlainAtoms.{plain_atom};
-ghost use Rattle.affine_systems.specs.Systems.{stands_in, with_atom, with_atoms, with_constraint, with_constraints, sum_of, is_equation, explained, all_explained, made_of, nothing, own_rows, kind_rows};
+ghost use Rattle.affine_systems.specs.Systems.{stands_in, with_atom, with_atoms, with_constraint};
+ghost use Rattle.affine_systems.specs.Systems.{with_constraints, sum_of, is_equation, explained};
+ghost use Rattle.affine_systems.specs.Systems.{all_explained, made_of, nothing, own_rows};
+ghost use Rattle.affine_systems.specs.Systems.{kind_rows};
 ghost use Rattle.affine_systems.specs.PlainCases.{plain_constraint};
 ghost use Rattle.affine_systems.specs.PlainMade.{plain_stated, plain_made};
 
@@ -93,7 +96,11 @@ impl<'a> Gathering<'a> {
 
     /// Adds an atom, if it is new.
     fn add_atom(&mut self, alloc: Global, atom: &Atom) -> Result<(), AllocError>
-        ensures { OnOk result (plain_made self.new ≡ record (plain_made self.old) { atoms = with_atom (plain_made self.old).atoms (plain_atom atom.now) }) }
+        ensures { OnOk result
+            (plain_made self.new
+            ≡ record (plain_made self.old) {
+              atoms = with_atom (plain_made self.old).atoms (plain_atom atom.now);
+            }) }
     {
         if !self.has(alloc, atom)? {
             self.atoms.push(atom.duplicate(alloc)?)?;
@@ -103,7 +110,11 @@ impl<'a> Gathering<'a> {
 
     /// Adds the atoms of a sum that are new.
     fn add_atoms(&mut self, alloc: Global, terms: &Terms) -> Result<(), AllocError>
-        ensures { OnOk result (plain_made self.new ≡ record (plain_made self.old) { atoms = with_atoms (plain_made self.old).atoms terms.now }) }
+        ensures { OnOk result
+            (plain_made self.new
+            ≡ record (plain_made self.old) {
+              atoms = with_atoms (plain_made self.old).atoms terms.now;
+            }) }
     {
         for w in terms.as_slice() {
             self.add_atom(alloc, &w.atom)?;
@@ -123,7 +134,10 @@ impl<'a> Gathering<'a> {
     /// Puts the rows last that say what a field of that kind is: a size is at least 1, and a bool is 0 or 1.
     fn state_kind(&mut self, alloc: Global, kind: Kind, field: &Atom) -> Result<(), AllocError>
         requires { IsTrue (is_kept_atom (plain_atom field.now)) }
-        ensures { OnOk result (plain_made self.new ≡ with_constraints (plain_made self.old) (kind_rows (control_kind kind) (only (plain_atom field.now)))) }
+        ensures { OnOk result
+            (plain_made self.new
+            ≡ with_constraints (plain_made self.old)
+            (kind_rows (control_kind kind) (only (plain_atom field.now)))) }
     {
         match kind {
             Kind::Size => {

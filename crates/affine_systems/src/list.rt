@@ -32,7 +32,8 @@ impl Model for OwedList {
 
     ghost view = { λ l. map plain_obligation l.items.items };
 
-    ghost invariant = { λ l. (l.terms ≡ terms_in (map plain_obligation l.items.items)) × (are_within (map plain_obligation l.items.items) ≡ true) };
+    ghost invariant = { λ l. (l.terms ≡ terms_in (map plain_obligation l.items.items))
+        × (are_within (map plain_obligation l.items.items) ≡ true) };
 }
 
 /// The number of terms of rows: variables with their coefficients, not constants. A system has at most 512 rows of 64 terms.

@@ -78,7 +78,9 @@ pub fn row(alloc: Global, atoms: &[Atom], constant: i128, terms: &Terms) -> Resu
     requires constant { IsTrue (is_narrow constant) }
     requires narrow { IsTrue (are_within (2 ^ 64) terms.now) }
     requires distinct { IsTrue (are_distinct terms.now) }
-    ensures value { IfOk result (λ r. plain_row (length atoms.now) r ≡ affine (map plain_atom atoms.now) (record { constant = constant; terms = terms.now })) }
+    ensures value { IfOk result
+        (λ r. plain_row (length atoms.now) r
+        ≡ affine (map plain_atom atoms.now) (record { constant = constant; terms = terms.now })) }
     ensures below { IfOk result (λ r. IsTrue (list_all (λ x. nat_lt x (length atoms.now)) (map (λ t. t.variable) r.terms.items))) }
 {
     let dense = coefficients(alloc, atoms, terms)?;

@@ -40,10 +40,20 @@ fn put_rows(
     requires few { length atoms.now ≤ 64 }
     requires equations_below { IsTrue (are_below (length atoms.now) (map (λ r. map (λ t. t.variable) r.terms.items) equations.old.items)) }
     requires rows_below { IsTrue (are_below (length atoms.now) (map (λ r. map (λ t. t.variable) r.terms.items) rows.old.items)) }
-    ensures equations { OnOk result (map (plain_row (length atoms.now)) equations.new.items ≡ map (plain_row (length atoms.now)) equations.old.items ++ equations_of (map plain_atom atoms.now) (map plain_stated cs.now)) }
-    ensures rows { OnOk result (map (plain_row (length atoms.now)) rows.new.items ≡ map (plain_row (length atoms.now)) rows.old.items ++ rows_of (map plain_atom atoms.now) (map plain_stated cs.now)) }
-    ensures equations_below { OnOk result (IsTrue (are_below (length atoms.now) (map (λ r. map (λ t. t.variable) r.terms.items) equations.new.items))) }
-    ensures rows_below { OnOk result (IsTrue (are_below (length atoms.now) (map (λ r. map (λ t. t.variable) r.terms.items) rows.new.items))) }
+    ensures equations { OnOk result
+        (map (plain_row (length atoms.now)) equations.new.items
+        ≡ map (plain_row (length atoms.now)) equations.old.items
+        ++ equations_of (map plain_atom atoms.now) (map plain_stated cs.now)) }
+    ensures rows { OnOk result
+        (map (plain_row (length atoms.now)) rows.new.items
+        ≡ map (plain_row (length atoms.now)) rows.old.items
+        ++ rows_of (map plain_atom atoms.now) (map plain_stated cs.now)) }
+    ensures equations_below { OnOk result
+        (IsTrue (are_below (length atoms.now)
+        (map (λ r. map (λ t. t.variable) r.terms.items) equations.new.items))) }
+    ensures rows_below { OnOk result
+        (IsTrue (are_below (length atoms.now)
+        (map (λ r. map (λ t. t.variable) r.terms.items) rows.new.items))) }
 {
     for c in cs {
         let r = row(alloc, atoms, c.constant(), c.terms())?;
@@ -129,7 +139,10 @@ fn owe(
     what: &Text,
     place: &Path,
 ) -> Result<(), AllocError>
-    ensures { OnOk result (map plain_obligation all.new.items ≡ map plain_obligation all.old.items ++ owed what.now place.now (plain_system system) ∷ []) }
+    ensures { OnOk result
+        (map plain_obligation all.new.items
+        ≡ map plain_obligation all.old.items
+        ++ owed what.now place.now (plain_system system) ∷ []) }
 {
     all.push(Obligation {
         system,

@@ -31,7 +31,9 @@ impl Model for OwnRow {
 
     ghost view = { λ r. record { constant = r.constant; terms = r.terms } };
 
-    ghost invariant = { λ r. IsTrue (is_within (2 ^ 66) r.constant) × IsTrue (are_within (2 ^ 64) r.terms) × IsTrue (are_distinct r.terms) };
+    ghost invariant = { λ r. IsTrue (is_within (2 ^ 66) r.constant)
+        × IsTrue (are_within (2 ^ 64) r.terms)
+        × IsTrue (are_distinct r.terms) };
 }
 
 impl OwnRow {
@@ -98,7 +100,10 @@ impl OwnRow {
         requires short { IsTrue (are_short terms.now) }
         requires distinct { IsTrue (are_distinct terms.now) }
         requires kept { IsTrue (is_kept_atom (plain_atom quotient.now)) }
-        ensures { IfOk result (λ r. r ≡ subtracted (record { constant = n; terms = terms.now }) (scaled by (only (plain_atom quotient.now)))) }
+        ensures { IfOk result
+            (λ r. r
+            ≡ subtracted (record { constant = n; terms = terms.now })
+            (scaled by (only (plain_atom quotient.now)))) }
     {
         let mut sum = terms.duplicate(alloc)?;
         sum.join(alloc, -(by as i128), quotient)?;
@@ -121,7 +126,10 @@ impl OwnRow {
         requires short { IsTrue (are_short terms.now) }
         requires distinct { IsTrue (are_distinct terms.now) }
         requires kept { IsTrue (is_kept_atom (plain_atom quotient.now)) }
-        ensures { IfOk result (λ r. r ≡ subtracted (moved (pos 1 -ℤ by) (scaled by (only (plain_atom quotient.now)))) (record { constant = n; terms = terms.now })) }
+        ensures { IfOk result
+            (λ r. r
+            ≡ subtracted (moved (pos 1 -ℤ by) (scaled by (only (plain_atom quotient.now))))
+            (record { constant = n; terms = terms.now })) }
     {
         let literal = by as i128;
         let mut sum = Terms::weighed(alloc, literal, quotient.duplicate(alloc)?)?;

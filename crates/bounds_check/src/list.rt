@@ -48,7 +48,8 @@ fn obligations_of_claims(
 ) -> Result<Vec<Obligation>, CheckError>
     requires site { IsSite site.now }
     requires claims { map placed claims.now ≡ claims_of (program site.now.unit.now) (procedure site.now.proc.now) }
-    requires owable { IsTrue (list_all (may_be_owed (procedure site.now.proc.now)) (claims_of (program site.now.unit.now) (procedure site.now.proc.now))) }
+    requires owable { IsTrue (list_all (may_be_owed (procedure site.now.proc.now))
+        (claims_of (program site.now.unit.now) (procedure site.now.proc.now))) }
     ensures { AreObligations result (program site.now.unit.now) (procedure site.now.proc.now) }
 {
     let mut cursor = Cursor::new(alloc, site.unit, site.proc, site.roots, site.writes);

@@ -40,7 +40,10 @@ fn literal(e: &Ctrl) -> i64
 /// A count by one dimension more; None where it passes the bound.
 fn times_literal(count: i64, d: &Ctrl) -> Option<i64>
     requires { pos 0 ≤ℤ count }
-    ensures value { result ≡ (if int_le (count *ℤ counts.literal (control d.now)) (pos 4611686018427387904) then Some (count *ℤ counts.literal (control d.now)) else None) }
+    ensures value { result
+        ≡ (if int_le (count *ℤ counts.literal (control d.now)) (pos 4611686018427387904)
+        then Some (count *ℤ counts.literal (control d.now))
+        else None) }
     ensures natural { IfSome result (λ n. pos 0 ≤ℤ n) }
 {
     let more = count.checked_mul(literal(d))?;
@@ -91,7 +94,10 @@ fn lower_buffer(
     dims: &[Ctrl],
     on_stack: bool,
 ) -> Result<CStatement, AllocError>
-    ensures { IfOk result (λ c. plain_statement c ≡ allocated_as (naming_of names.now) on_stack (plain_element element) x.now.id.0 (map control dims.now)) }
+    ensures { IfOk result
+        (λ c. plain_statement c
+        ≡ allocated_as (naming_of names.now) on_stack (plain_element element) x.now.id.0
+        (map control dims.now)) }
 {
     let name = names.binder(alloc, x.id)?;
     if on_stack {
@@ -110,7 +116,10 @@ pub(crate) fn lower_alloc(
     dims: &Indices,
     m: MemId,
 ) -> Result<CStatement, AllocError>
-    ensures { IfOk result (λ c. plain_statement c ≡ buffer_of (naming_of names.now) x.now.id.0 (cell_type cell) dims.now ((naming_of names.now).memory m.0)) }
+    ensures { IfOk result
+        (λ c. plain_statement c
+        ≡ buffer_of (naming_of names.now) x.now.id.0 (cell_type cell) dims.now
+        ((naming_of names.now).memory m.0)) }
 {
     let memory = names.memory(m);
     let element = element(alloc, memory, cell)?;

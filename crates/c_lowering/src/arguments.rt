@@ -7,7 +7,9 @@ ghost use Rattle.exo_tree.specs.PlainArgument.{argument};
 ghost use Rattle.exo_tree.specs.PlainParam.{parameter, parameter_kind};
 ghost use Rattle.c_tree.specs.CTree.{Alone, WindowOf};
 ghost use Rattle.c_tree.specs.Plain.{plain_number, plain_cell, plain_window, plain_actual};
-ghost use Rattle.c_lowered.specs.Lowered.{Naming, strides_in, at_spans, zeros, cell_ref, cell_at_of, lower_end, window_of, whole_window, whole_tensor, actual_of, actuals_of};
+ghost use Rattle.c_lowered.specs.Lowered.{Naming, strides_in, at_spans, zeros, cell_ref};
+ghost use Rattle.c_lowered.specs.Lowered.{cell_at_of, lower_end, window_of, whole_window};
+ghost use Rattle.c_lowered.specs.Lowered.{whole_tensor, actual_of, actuals_of};
 ghost use Rattle.c_lowering.specs.Scope.{forms_in};
 ghost use Rattle.c_lowering.specs.Naming.{naming_of};
 ghost use Rattle.c_lowering.specs.Whole.{is_span, whole_of};
@@ -56,7 +58,11 @@ fn put_stride(
     k: usize,
     strides: &mut Vec<CNumber>,
 ) -> Result<(), AllocError>
-    ensures { OnOk result (map plain_number strides.new.items ≡ map plain_number strides.old.items ++ at_spans (coordinate c.now ∷ []) (drop k (strides_in (naming_of names.now) x.0 (forms_in scope.now x.0)))) }
+    ensures { OnOk result
+        (map plain_number strides.new.items
+        ≡ map plain_number strides.old.items
+        ++ at_spans (coordinate c.now ∷ [])
+        (drop k (strides_in (naming_of names.now) x.0 (forms_in scope.now x.0)))) }
 {
     if has_stride(c, k, stride_count(scope, x)) {
         strides.push(lower_stride(alloc, names, scope, x, k)?)?;
@@ -86,7 +92,10 @@ fn span_strides(
     x: Id,
     coords: &[Coord],
 ) -> Result<Vec<CNumber>, AllocError>
-    ensures { IfOk result (λ v. map plain_number v.items ≡ at_spans (map coordinate coords.now) (strides_in (naming_of names.now) x.0 (forms_in scope.now x.0))) }
+    ensures { IfOk result
+        (λ v. map plain_number v.items
+        ≡ at_spans (map coordinate coords.now)
+        (strides_in (naming_of names.now) x.0 (forms_in scope.now x.0))) }
 {
     let mut strides = Vec::new(alloc);
     for (k, c) in coords.iter().enumerate() {
@@ -134,7 +143,10 @@ pub(crate) fn first_of_whole(
     scope: &[Entry],
     x: Id,
 ) -> Result<CCell, AllocError>
-    ensures { IfOk result (λ c. plain_cell c ≡ cell_ref (naming_of names.now) x.0 (forms_in scope.now x.0) (zeros (strides_in (naming_of names.now) x.0 (forms_in scope.now x.0)))) }
+    ensures { IfOk result
+        (λ c. plain_cell c
+        ≡ cell_ref (naming_of names.now) x.0 (forms_in scope.now x.0)
+        (zeros (strides_in (naming_of names.now) x.0 (forms_in scope.now x.0)))) }
 {
     let zeros = zero_indices(alloc, stride_count(scope, x))?;
     let cell = lower_cell(alloc, names, scope, x, &zeros)?;
@@ -158,7 +170,9 @@ pub(crate) fn first_of_window(
 
 /// A window by its first cell and its strides.
 fn window_from(cell: Cell, first: CCell, strides: Vec<CNumber>) -> CWindow
-    ensures { plain_window result ≡ WindowOf (length (map plain_number strides.items)) (cell_type cell) (plain_cell first) (map plain_number strides.items) }
+    ensures { plain_window result
+        ≡ WindowOf (length (map plain_number strides.items)) (cell_type cell) (plain_cell first)
+        (map plain_number strides.items) }
 {
     let kind = CStruct {
         rank: strides.len(),
@@ -250,7 +264,10 @@ fn lower_whole(
     kind: &ParamKind,
     x: Id,
 ) -> Result<CActual, AllocError>
-    ensures { IfOk result (λ a. plain_actual a ≡ actual_of (naming_of names.now) (forms_in scope.now) (parameter_kind kind.now) (Whole x.0)) }
+    ensures { IfOk result
+        (λ a. plain_actual a
+        ≡ actual_of (naming_of names.now) (forms_in scope.now) (parameter_kind kind.now)
+        (Whole x.0)) }
 {
     match kind {
         ParamKind::Ctrl(_) => alone(alloc, names, x),
@@ -268,7 +285,10 @@ fn lower_part(
     x: Id,
     coords: &Coords,
 ) -> Result<CActual, AllocError>
-    ensures { IfOk result (λ a. plain_actual a ≡ actual_of (naming_of names.now) (forms_in scope.now) (parameter_kind kind.now) (Window x.0 coords.now)) }
+    ensures { IfOk result
+        (λ a. plain_actual a
+        ≡ actual_of (naming_of names.now) (forms_in scope.now) (parameter_kind kind.now)
+        (Window x.0 coords.now)) }
 {
     match kind {
         ParamKind::Ctrl(_) => alone(alloc, names, x),
@@ -289,7 +309,10 @@ pub(crate) fn lower_actual(
     kind: &ParamKind,
     a: &Arg,
 ) -> Result<CActual, AllocError>
-    ensures { IfOk result (λ c. plain_actual c ≡ actual_of (naming_of names.now) (forms_in scope.now) (parameter_kind kind.now) (argument a.now)) }
+    ensures { IfOk result
+        (λ c. plain_actual c
+        ≡ actual_of (naming_of names.now) (forms_in scope.now) (parameter_kind kind.now)
+        (argument a.now)) }
 {
     match a {
         Arg::Ctrl(e) => Ok(CActual::Number(lower_number(alloc, names, scope, e)?)),
@@ -307,7 +330,10 @@ pub(crate) fn lower_actuals(
     params: &[Param],
     args: &[Arg],
 ) -> Result<Vec<CActual>, AllocError>
-    ensures { IfOk result (λ v. map plain_actual v.items ≡ actuals_of (naming_of names.now) (forms_in scope.now) (map parameter params.now) (map argument args.now)) }
+    ensures { IfOk result
+        (λ v. map plain_actual v.items
+        ≡ actuals_of (naming_of names.now) (forms_in scope.now) (map parameter params.now)
+        (map argument args.now)) }
 {
     let mut made = Vec::new(alloc);
     for k in 0..params.len().min(args.len()) {

@@ -10,7 +10,8 @@ ghost use Rattle.exo_tree.specs.PlainStatement.{statement};
 ghost use Rattle.exo_meaning.specs.Scene.{updated};
 ghost use Rattle.c_tree.specs.CTree.{cblock, followed_by};
 ghost use Rattle.c_tree.specs.Plain.{plain_cell, plain_data, plain_statement};
-ghost use Rattle.c_lowered.specs.Lowered.{NumberForm, TensorForm, WindowForm, cell_in, strides_in, at_spans, cell_at_of, number32_of, block_of, forms_after};
+ghost use Rattle.c_lowered.specs.Lowered.{NumberForm, TensorForm, WindowForm, cell_in, strides_in};
+ghost use Rattle.c_lowered.specs.Lowered.{at_spans, cell_at_of, number32_of, block_of, forms_after};
 ghost use Rattle.c_lowering.specs.Scope.{forms_in};
 ghost use Rattle.c_lowering.specs.Naming.{naming_of};
 ghost use Rattle.c_lowering.specs.Heads.{is_on_stack, head_of, kept, heaped, frees};
@@ -56,7 +57,10 @@ fn lower_branch(
     a: &Block,
     b: &Block,
 ) -> Result<CStatement, AllocError>
-    ensures value { IfOk result (λ s. plain_statement s ≡ head_of (naming_of names.now) (forms_in scope.old.items) (If (condition c.now) (block a.now) (block b.now))) }
+    ensures value { IfOk result
+        (λ s. plain_statement s
+        ≡ head_of (naming_of names.now) (forms_in scope.old.items)
+        (If (condition c.now) (block a.now) (block b.now))) }
     ensures scope { OnOk result (scope.new.items ≡ scope.old.items) }
 {
     let main = lower_block(alloc, names, scope, a)?;
@@ -74,7 +78,10 @@ fn lower_body(
     i: Id,
     body: &Block,
 ) -> Result<CBlock, AllocError>
-    ensures value { IfOk result (λ c. cblock c ≡ block_of (naming_of names.now) (updated (forms_in scope.old.items) i.0 NumberForm) (block body.now)) }
+    ensures value { IfOk result
+        (λ c. cblock c
+        ≡ block_of (naming_of names.now) (updated (forms_in scope.old.items) i.0 NumberForm)
+        (block body.now)) }
     ensures scope { OnOk result (scope.new.items ≡ scope.old.items) }
 {
     let depth = scope.len();
@@ -95,7 +102,10 @@ fn lower_loop(
     hi: &Ctrl,
     body: &Block,
 ) -> Result<CStatement, AllocError>
-    ensures value { IfOk result (λ s. plain_statement s ≡ head_of (naming_of names.now) (forms_in scope.old.items) (For (binding i.now) (control lo.now) (control hi.now) (block body.now))) }
+    ensures value { IfOk result
+        (λ s. plain_statement s
+        ≡ head_of (naming_of names.now) (forms_in scope.old.items)
+        (For (binding i.now) (control lo.now) (control hi.now) (block body.now))) }
     ensures scope { OnOk result (scope.new.items ≡ scope.old.items) }
 {
     let body = lower_body(alloc, names, scope, i.id, body)?;
@@ -129,7 +139,10 @@ fn lower_view(
     x: Id,
     coords: &Coords,
 ) -> Result<CStatement, AllocError>
-    ensures { IfOk result (λ s. plain_statement s ≡ head_of (naming_of names.now) (forms_in scope.now) (View (binding w.now) x.0 coords.now)) }
+    ensures { IfOk result
+        (λ s. plain_statement s
+        ≡ head_of (naming_of names.now) (forms_in scope.now)
+        (View (binding w.now) x.0 coords.now)) }
 {
     let name = names.binder(alloc, w.id)?;
     let window = lower_window(alloc, names, scope, x, buffer_cell(scope, x), coords)?;
@@ -194,9 +207,15 @@ fn open_buffer(
     scope: &mut Vec<Entry>,
     buffers: &mut Vec<Id>,
 ) -> Result<(), AllocError>
-    ensures forms { OnOk result (forms_in scope.new.items ≡ updated (forms_in scope.old.items) x.0 (TensorForm (plain.cell_type cell) dims.now ((naming_of names.now).memory m.0).lanes)) }
+    ensures forms { OnOk result
+        (forms_in scope.new.items
+        ≡ updated (forms_in scope.old.items) x.0
+        (TensorForm (plain.cell_type cell) dims.now ((naming_of names.now).memory m.0).lanes)) }
     ensures kept { OnOk result (take (length scope.old.items) scope.new.items ≡ scope.old.items) }
-    ensures buffers { OnOk result (map (λ y. y.0) buffers.new.items ≡ map (λ y. y.0) buffers.old.items ++ kept (is_on_stack ((naming_of names.now).memory m.0) dims.now) x.0) }
+    ensures buffers { OnOk result
+        (map (λ y. y.0) buffers.new.items
+        ≡ map (λ y. y.0) buffers.old.items
+        ++ kept (is_on_stack ((naming_of names.now).memory m.0) dims.now) x.0) }
 {
     let memory = names.memory(m);
     let form = Form::Tensor(cell, dims.duplicate(alloc)?, memory.lanes);
@@ -215,7 +234,12 @@ fn open_view(
     coords: &Coords,
     scope: &mut Vec<Entry>,
 ) -> Result<(), AllocError>
-    ensures forms { OnOk result (forms_in scope.new.items ≡ updated (forms_in scope.old.items) w.0 (WindowForm (cell_in (forms_in scope.old.items x.0) I32) (length (at_spans coords.now (strides_in (naming_of names.now) x.0 (forms_in scope.old.items x.0)))))) }
+    ensures forms { OnOk result
+        (forms_in scope.new.items
+        ≡ updated (forms_in scope.old.items) w.0
+        (WindowForm (cell_in (forms_in scope.old.items x.0) I32)
+        (length (at_spans coords.now
+        (strides_in (naming_of names.now) x.0 (forms_in scope.old.items x.0)))))) }
     ensures kept { OnOk result (take (length scope.old.items) scope.new.items ≡ scope.old.items) }
 {
     let form = Form::Window(
@@ -233,9 +257,13 @@ fn open(
     scope: &mut Vec<Entry>,
     buffers: &mut Vec<Id>,
 ) -> Result<(), AllocError>
-    ensures forms { OnOk result (forms_in scope.new.items ≡ forms_after (naming_of names.now) (statement s.now) (forms_in scope.old.items)) }
+    ensures forms { OnOk result
+        (forms_in scope.new.items
+        ≡ forms_after (naming_of names.now) (statement s.now) (forms_in scope.old.items)) }
     ensures kept { OnOk result (take (length scope.old.items) scope.new.items ≡ scope.old.items) }
-    ensures buffers { OnOk result (map (λ y. y.0) buffers.new.items ≡ map (λ y. y.0) buffers.old.items ++ heaped (naming_of names.now) (statement s.now)) }
+    ensures buffers { OnOk result
+        (map (λ y. y.0) buffers.new.items
+        ≡ map (λ y. y.0) buffers.old.items ++ heaped (naming_of names.now) (statement s.now)) }
 {
     match s {
         Stmt::Alloc(x, cell, dims, m) => open_buffer(

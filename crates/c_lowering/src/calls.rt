@@ -51,7 +51,10 @@ fn piece_for(
     kind: &ParamKind,
     a: &Arg,
 ) -> Result<CPiece, AllocError>
-    ensures { IfOk result (λ p. plain_piece p ≡ piece_for (naming_of names.now) (forms_in scope.now) (parameter_kind kind.now) (argument a.now)) }
+    ensures { IfOk result
+        (λ p. plain_piece p
+        ≡ piece_for (naming_of names.now) (forms_in scope.now) (parameter_kind kind.now)
+        (argument a.now)) }
 {
     match kind {
         ParamKind::Ctrl(_) => Ok(CPiece::Actual(lower_actual(alloc, names, scope, kind, a)?)),
@@ -68,7 +71,10 @@ fn piece_named(
     args: &[Arg],
     name: &str,
 ) -> Result<CPiece, AllocError>
-    ensures { IfOk result (λ p. plain_piece p ≡ piece_named (naming_of names.now) (forms_in scope.now) (map parameter params.now) (map argument args.now) name.now) }
+    ensures { IfOk result
+        (λ p. plain_piece p
+        ≡ piece_named (naming_of names.now) (forms_in scope.now) (map parameter params.now)
+        (map argument args.now) name.now) }
 {
     for k in 0..params.len().min(args.len()) {
         if is_hole_of(name, &params[k]) {
@@ -87,7 +93,10 @@ fn piece_of(
     args: &[Arg],
     hole: &Hole,
 ) -> Result<CPiece, AllocError>
-    ensures { IfOk result (λ p. plain_piece p ≡ piece_of (naming_of names.now) (forms_in scope.now) (map parameter params.now) (map argument args.now) (plain_hole hole.now)) }
+    ensures { IfOk result
+        (λ p. plain_piece p
+        ≡ piece_of (naming_of names.now) (forms_in scope.now) (map parameter params.now)
+        (map argument args.now) (plain_hole hole.now)) }
 {
     match hole {
         Hole::Bytes(text) => Ok(CPiece::Text(String::from_str(alloc, text.as_str())?)),
@@ -104,7 +113,11 @@ fn pieces_of(
     args: &[Arg],
     holes: &[Hole],
 ) -> Result<Vec<CPiece>, AllocError>
-    ensures { IfOk result (λ v. map plain_piece v.items ≡ map (piece_of (naming_of names.now) (forms_in scope.now) (map parameter params.now) (map argument args.now)) (map plain_hole holes.now)) }
+    ensures { IfOk result
+        (λ v. map plain_piece v.items
+        ≡ map (piece_of (naming_of names.now) (forms_in scope.now) (map parameter params.now)
+        (map argument args.now))
+        (map plain_hole holes.now)) }
 {
     let mut pieces = Vec::new(alloc);
     for hole in holes {
@@ -122,7 +135,11 @@ fn lower_template(
     args: &[Arg],
     template: &str,
 ) -> Result<Vec<CPiece>, AllocError>
-    ensures { IfOk result (λ v. map plain_piece v.items ≡ map (piece_of (naming_of names.now) (forms_in scope.now) (map parameter params.now) (map argument args.now)) (holes_of template.now)) }
+    ensures { IfOk result
+        (λ v. map plain_piece v.items
+        ≡ map (piece_of (naming_of names.now) (forms_in scope.now) (map parameter params.now)
+        (map argument args.now))
+        (holes_of template.now)) }
 {
     let holes = holes_of(alloc, template)?;
     let pieces = pieces_of(alloc, names, scope, params, args, &holes)?;
@@ -138,7 +155,9 @@ fn call_by_name(
     args: &Args,
 ) -> Result<CCall, AllocError>
     ensures name { IfOk result (λ c. string_bytes c.function ≡ p.now.name) }
-    ensures args { IfOk result (λ c. map plain_actual c.args.items ≡ actuals_of (naming_of names.now) (forms_in scope.now) p.now.params args.now) }
+    ensures args { IfOk result
+        (λ c. map plain_actual c.args.items
+        ≡ actuals_of (naming_of names.now) (forms_in scope.now) p.now.params args.now) }
 {
     let function = String::from_str(alloc, p.name.as_str())?;
     let args = lower_actuals(alloc, names, scope, p.params.as_slice(), args.as_slice())?;
@@ -156,8 +175,13 @@ fn call_by_template(
     template: &str,
 ) -> Result<CInstruction, AllocError>
     ensures number { IfOk result (λ c. c.number ≡ k.0) }
-    ensures pieces { IfOk result (λ c. map plain_piece c.pieces.items ≡ map (piece_of (naming_of names.now) (forms_in scope.now) p.now.params args.now) (holes_of template.now)) }
-    ensures args { IfOk result (λ c. map plain_actual c.args.items ≡ actuals_of (naming_of names.now) (forms_in scope.now) p.now.params args.now) }
+    ensures pieces { IfOk result
+        (λ c. map plain_piece c.pieces.items
+        ≡ map (piece_of (naming_of names.now) (forms_in scope.now) p.now.params args.now)
+        (holes_of template.now)) }
+    ensures args { IfOk result
+        (λ c. map plain_actual c.args.items
+        ≡ actuals_of (naming_of names.now) (forms_in scope.now) p.now.params args.now) }
 {
     let params = p.params.as_slice();
     let pieces = lower_template(alloc, names, scope, params, args.as_slice(), template)?;
@@ -178,7 +202,10 @@ fn lower_call_of(
     p: &Proc,
     args: &Args,
 ) -> Result<CStatement, AllocError>
-    ensures { IfOk result (λ s. plain_statement s ≡ call_of (naming_of names.now) (forms_in scope.now) k.0 (routine_of (Some (procedure p.now))) args.now) }
+    ensures { IfOk result
+        (λ s. plain_statement s
+        ≡ call_of (naming_of names.now) (forms_in scope.now) k.0
+        (routine_of (Some (procedure p.now))) args.now) }
 {
     match &p.template {
         None => Ok(CStatement::Call(call_by_name(alloc, names, scope, p, args)?)),
@@ -212,7 +239,10 @@ pub(crate) fn lower_call(
     k: ProcId,
     args: &Args,
 ) -> Result<CStatement, AllocError>
-    ensures { IfOk result (λ s. plain_statement s ≡ call_of (naming_of names.now) (forms_in scope.now) k.0 ((naming_of names.now).routine k.0) args.now) }
+    ensures { IfOk result
+        (λ s. plain_statement s
+        ≡ call_of (naming_of names.now) (forms_in scope.now) k.0
+        ((naming_of names.now).routine k.0) args.now) }
 {
     match names.unit.procs.get(k.0 as usize) {
         Some(p) => lower_call_of(alloc, names, scope, k, p, args),

@@ -3,7 +3,9 @@ ghost use Rattle.std.specs.Prelude.{◌≡◌, ◌+◌, ◌-◌, map, drop, IfOk
 ghost use Rattle.exo_tree.specs.PlainControl.{control};
 ghost use Rattle.c_tree.specs.CTree.{Literal, Named, StrideIn, Sum, Product};
 ghost use Rattle.c_tree.specs.Plain.{plain_number};
-ghost use Rattle.c_lowered.specs.Lowered.{number_of, numbers_of, dims_of, product_from, product_of, row_strides, window_strides, or_one, strides_in, horner, offset, scaled, scaled_from, front, without_lanes};
+ghost use Rattle.c_lowered.specs.Lowered.{number_of, numbers_of, dims_of, product_from, product_of};
+ghost use Rattle.c_lowered.specs.Lowered.{row_strides, window_strides, or_one, strides_in, horner};
+ghost use Rattle.c_lowered.specs.Lowered.{offset, scaled, scaled_from, front, without_lanes};
 ghost use Rattle.c_lowering.specs.Scope.{forms_in};
 ghost use Rattle.c_lowering.specs.Naming.{naming_of, extent_of};
 ghost use Rattle.c_lowering.specs.Behind.{offset_behind};
@@ -96,7 +98,10 @@ fn times_extents(
     product: Box<CNumber>,
     dims: &[Ctrl],
 ) -> Result<Box<CNumber>, AllocError>
-    ensures { IfOk result (λ n. plain_number n.value ≡ product_from (plain_number product.value) (dims_of (naming_of names.now) (map control dims.now))) }
+    ensures { IfOk result
+        (λ n. plain_number n.value
+        ≡ product_from (plain_number product.value)
+        (dims_of (naming_of names.now) (map control dims.now))) }
 {
     let Some((d, rest)) = dims.split_first() else {
         return Ok(product);
@@ -245,7 +250,10 @@ fn next_row(
     i: &Ctrl,
     d: &Ctrl,
 ) -> Result<Box<CNumber>, AllocError>
-    ensures { IfOk result (λ n. plain_number n.value ≡ Sum (Product (plain_number at.value) (extent_of (naming_of names.now) (control d.now))) (number_of (naming_of names.now) (forms_in scope.now) (control i.now))) }
+    ensures { IfOk result
+        (λ n. plain_number n.value
+        ≡ Sum (Product (plain_number at.value) (extent_of (naming_of names.now) (control d.now)))
+        (number_of (naming_of names.now) (forms_in scope.now) (control i.now))) }
 {
     let extent = lower_extent(alloc, names, d)?;
     let row = Box::new(alloc, CNumber::Product(at, extent))?;
@@ -262,7 +270,11 @@ fn add_rows(
     is: &[Ctrl],
     dims: &[Ctrl],
 ) -> Result<Box<CNumber>, AllocError>
-    ensures { IfOk result (λ n. plain_number n.value ≡ horner (plain_number at.value) (numbers_of (naming_of names.now) (forms_in scope.now) (map control is.now)) (dims_of (naming_of names.now) (map control dims.now))) }
+    ensures { IfOk result
+        (λ n. plain_number n.value
+        ≡ horner (plain_number at.value)
+        (numbers_of (naming_of names.now) (forms_in scope.now) (map control is.now))
+        (dims_of (naming_of names.now) (map control dims.now))) }
 {
     let Some((i, inner)) = is.split_first() else {
         return Ok(at);
@@ -283,7 +295,10 @@ fn rows_offset(
     is: &[Ctrl],
     rest: &[Ctrl],
 ) -> Result<Box<CNumber>, AllocError>
-    ensures { IfOk result (λ n. plain_number n.value ≡ offset_behind (numbers_of (naming_of names.now) (forms_in scope.now) (map control is.now)) (dims_of (naming_of names.now) (map control rest.now))) }
+    ensures { IfOk result
+        (λ n. plain_number n.value
+        ≡ offset_behind (numbers_of (naming_of names.now) (forms_in scope.now) (map control is.now))
+        (dims_of (naming_of names.now) (map control rest.now))) }
 {
     let Some((i, inner)) = is.split_first() else {
         return boxed_literal(alloc, 0);
@@ -322,7 +337,11 @@ pub(crate) fn lower_offset(
     dims: &Indices,
     lanes: u32,
 ) -> Result<Box<CNumber>, AllocError>
-    ensures { IfOk result (λ n. plain_number n.value ≡ offset (without_lanes lanes (numbers_of (naming_of names.now) (forms_in scope.now) is.now)) (without_lanes lanes (dims_of (naming_of names.now) dims.now))) }
+    ensures { IfOk result
+        (λ n. plain_number n.value
+        ≡ offset (without_lanes lanes
+        (numbers_of (naming_of names.now) (forms_in scope.now) is.now))
+        (without_lanes lanes (dims_of (naming_of names.now) dims.now))) }
 {
     let indices = own(is.as_slice(), lanes);
     let rest = later(own(dims.as_slice(), lanes), 0);
@@ -339,7 +358,10 @@ fn lower_step(
     w: Id,
     k: usize,
 ) -> Result<Box<CNumber>, AllocError>
-    ensures { IfOk result (λ n. plain_number n.value ≡ Product (number_of (naming_of names.now) (forms_in scope.now) (control i.now)) (StrideIn ((naming_of names.now).binder w.0) k)) }
+    ensures { IfOk result
+        (λ n. plain_number n.value
+        ≡ Product (number_of (naming_of names.now) (forms_in scope.now) (control i.now))
+        (StrideIn ((naming_of names.now).binder w.0) k)) }
 {
     let index = lower_number(alloc, names, scope, i)?;
     let stride = Box::new(alloc, stride_in(alloc, names, w, k)?)?;
@@ -356,7 +378,11 @@ fn next_step(
     w: Id,
     k: usize,
 ) -> Result<Box<CNumber>, AllocError>
-    ensures { IfOk result (λ n. plain_number n.value ≡ Sum (plain_number at.value) (Product (number_of (naming_of names.now) (forms_in scope.now) (control i.now)) (StrideIn ((naming_of names.now).binder w.0) k))) }
+    ensures { IfOk result
+        (λ n. plain_number n.value
+        ≡ Sum (plain_number at.value)
+        (Product (number_of (naming_of names.now) (forms_in scope.now) (control i.now))
+        (StrideIn ((naming_of names.now).binder w.0) k))) }
 {
     let step = lower_step(alloc, names, scope, i, w, k)?;
     Ok(Box::new(alloc, CNumber::Sum(at, step))?)
@@ -373,7 +399,11 @@ fn add_steps(
     k: usize,
     rank: usize,
 ) -> Result<Box<CNumber>, AllocError>
-    ensures { IfOk result (λ n. plain_number n.value ≡ scaled_from (plain_number at.value) (numbers_of (naming_of names.now) (forms_in scope.now) (map control is.now)) (window_strides ((naming_of names.now).binder w.0) k (rank - k))) }
+    ensures { IfOk result
+        (λ n. plain_number n.value
+        ≡ scaled_from (plain_number at.value)
+        (numbers_of (naming_of names.now) (forms_in scope.now) (map control is.now))
+        (window_strides ((naming_of names.now).binder w.0) k (rank - k))) }
 {
     let Some((i, inner)) = is.split_first() else {
         return Ok(at);
@@ -395,7 +425,10 @@ pub(crate) fn lower_steps(
     w: Id,
     rank: usize,
 ) -> Result<Box<CNumber>, AllocError>
-    ensures { IfOk result (λ n. plain_number n.value ≡ scaled (numbers_of (naming_of names.now) (forms_in scope.now) (map control is.now)) (window_strides ((naming_of names.now).binder w.0) 0 rank)) }
+    ensures { IfOk result
+        (λ n. plain_number n.value
+        ≡ scaled (numbers_of (naming_of names.now) (forms_in scope.now) (map control is.now))
+        (window_strides ((naming_of names.now).binder w.0) 0 rank)) }
 {
     let Some((i, inner)) = is.split_first() else {
         return boxed_literal(alloc, 0);

@@ -70,7 +70,11 @@ fn numbered(alloc: Global, x: &str, k: usize) -> Result<Name, AllocError>
 
 /// The name with the least number from 1 on that is not taken.
 fn renamed(alloc: Global, globals: &[Name], binders: &[Name], x: &str) -> Result<Name, AllocError>
-    ensures { IfOk result (λ n. n ≡ names.numbered x.now (names.first_free (names.is_taken globals.now binders.now) x.now (suc (length globals.now + length binders.now)) 1)) }
+    ensures { IfOk result
+        (λ n. n
+        ≡ names.numbered x.now
+        (names.first_free (names.is_taken globals.now binders.now) x.now
+        (suc (length globals.now + length binders.now)) 1)) }
 {
     let count = globals.len() + binders.len() + 1;
     for k in 0..count {

@@ -8,7 +8,9 @@ ghost use Rattle.exo_tree.specs.PlainProcedure.{procedure};
 ghost use Rattle.exo_tree.specs.PlainTables.{config_field};
 ghost use Rattle.exo_tree.specs.PlainUnit.{program};
 ghost use Rattle.exo_calls.specs.Marked.{contains, Marked};
-ghost use Rattle.c_lowered.specs.LoweredUnit.{in_control, in_condition, in_conditions, in_argument, in_arguments, in_block, in_statement, in_procedure, is_used_from, fields_from};
+ghost use Rattle.c_lowered.specs.LoweredUnit.{in_control, in_condition, in_conditions, in_argument};
+ghost use Rattle.c_lowered.specs.LoweredUnit.{in_arguments, in_block, in_statement, in_procedure};
+ghost use Rattle.c_lowered.specs.LoweredUnit.{is_used_from, fields_from};
 
 use crate::field_marks::FieldMarks;
 use c_lowering::field_name;
@@ -135,7 +137,9 @@ fn mark_counted(p: &Proc, counted: bool, marks: &mut FieldMarks)
 
 /// The fields that the counted procedures read or write.
 fn used_fields(alloc: Global, unit: &Unit, counted: &Marks) -> Result<FieldMarks, AllocError>
-    ensures { IfOk result (λ s. Marked (λ f. is_used_from (contains counted.now) f 0 (program unit.now).procedures) (replicate (length unit.now.fields) false) s) }
+    ensures { IfOk result
+        (λ s. Marked (λ f. is_used_from (contains counted.now) f 0 (program unit.now).procedures)
+        (replicate (length unit.now.fields) false) s) }
 {
     let mut marks = FieldMarks::empty(alloc, unit.fields.len())?;
     for (k, p) in unit.procs.as_slice().iter().enumerate() {
@@ -168,7 +172,10 @@ pub(crate) fn lower_fields(
     unit: &Unit,
     counted: &Marks,
 ) -> Result<Vec<Name>, AllocError>
-    ensures { IfOk result (λ v. v.items ≡ fields_from (λ f. is_used_from (contains counted.now) f 0 (program unit.now).procedures) 0 unit.now.fields) }
+    ensures { IfOk result
+        (λ v. v.items
+        ≡ fields_from (λ f. is_used_from (contains counted.now) f 0
+        (program unit.now).procedures) 0 unit.now.fields) }
 {
     let marks = used_fields(alloc, unit, counted)?;
     let names = marked_names(alloc, &marks, unit.fields.as_slice())?;

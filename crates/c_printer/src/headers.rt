@@ -74,7 +74,10 @@ fn used_headers(
     what: &[Printed],
     memories: &[MemoryClass],
 ) -> Result<Vec<Name>, AllocError>
-    ensures { IfOk result (λ v. v.items ≡ headers_from (is_filled (program unit.now) (map printing what.now)) 0 [] (map memory_kind memories.now)) }
+    ensures { IfOk result
+        (λ v. v.items
+        ≡ headers_from (is_filled (program unit.now) (map printing what.now)) 0 []
+        (map memory_kind memories.now)) }
 {
     let mut headers = Vec::new(alloc);
     for (k, m) in memories.iter().enumerate() {

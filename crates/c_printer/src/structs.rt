@@ -119,7 +119,10 @@ fn put_struct(
     functions: &[CFunction],
     made: &mut Vec<CStruct>,
 ) -> Result<(), AllocError>
-    ensures { OnOk result (map plain_struct made.new.items ≡ map plain_struct made.old.items ++ structs.kept_structs (map plain_function functions.now) (plain_struct s ∷ [])) }
+    ensures { OnOk result
+        (map plain_struct made.new.items
+        ≡ map plain_struct made.old.items
+        ++ structs.kept_structs (map plain_function functions.now) (plain_struct s ∷ [])) }
 {
     if is_named(s, functions) {
         made.push(s)?;
@@ -134,7 +137,11 @@ fn put_rank(
     functions: &[CFunction],
     made: &mut Vec<CStruct>,
 ) -> Result<(), AllocError>
-    ensures { OnOk result (map plain_struct made.new.items ≡ map plain_struct made.old.items ++ structs.kept_structs (map plain_function functions.now) (map (λ c. structs.struct_at rank (cell_type c)) cells.now)) }
+    ensures { OnOk result
+        (map plain_struct made.new.items
+        ≡ map plain_struct made.old.items
+        ++ structs.kept_structs (map plain_function functions.now)
+        (map (λ c. structs.struct_at rank (cell_type c)) cells.now)) }
 {
     for cell in cells {
         put_struct(CStruct { rank, cell: *cell }, functions, made)?;

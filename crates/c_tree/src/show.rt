@@ -1,8 +1,13 @@
 //! Expressions of C print as C.
 ghost use Rattle.std.specs.Prelude.{◌≡◌, Some, map, string_bytes};
 ghost use Rattle.exo_tree.specs.PlainBinder.{cell_type};
-ghost use Rattle.c_tree.specs.CText.{cell_word, type_word, struct_word, element_word, number64_text, test_text, cell_text, number32_text, actual_text, piece_text, allocation_text, bound_text, formal_text, head_text, each, listed};
-ghost use Rattle.c_tree.specs.Plain.{plain_element, plain_number, plain_test, plain_cell, plain_data, plain_window, plain_actual, plain_piece, plain_param, plain_statement};
+ghost use Rattle.c_tree.specs.CText.{cell_word, type_word, struct_word, element_word};
+ghost use Rattle.c_tree.specs.CText.{number64_text, test_text, cell_text, number32_text};
+ghost use Rattle.c_tree.specs.CText.{actual_text, piece_text, allocation_text, bound_text};
+ghost use Rattle.c_tree.specs.CText.{formal_text, head_text, each, listed};
+ghost use Rattle.c_tree.specs.Plain.{plain_element, plain_number, plain_test, plain_cell};
+ghost use Rattle.c_tree.specs.Plain.{plain_data, plain_window, plain_actual, plain_piece};
+ghost use Rattle.c_tree.specs.Plain.{plain_param, plain_statement};
 
 use crate::tree::{
     CActual, CCell, CData, CElement, CHolder, CNumber, CParam, CPiece, CStatement, CStruct, CTest,
@@ -229,7 +234,8 @@ struct Allocation<'a> {
 }
 
 impl fmt::Display for Allocation<'_> {
-    ghost output = { λ a. Some (allocation_text (element_word (plain_element a.element.now)) (string_bytes a.name.now) (number64_text (plain_number a.count.now))) };
+    ghost output = { λ a. Some (allocation_text (element_word (plain_element a.element.now))
+        (string_bytes a.name.now) (number64_text (plain_number a.count.now))) };
 
     fn fmt<W: fmt::Write>(&self, f: &mut fmt::Formatter<W>) -> fmt::Result {
         let Allocation {
@@ -252,7 +258,9 @@ struct Binding<'a> {
 }
 
 impl fmt::Display for Binding<'_> {
-    ghost output = { λ b. Some (bound_text b.window.now.kind.rank (cell_type b.window.now.kind.cell) (string_bytes b.name.now) (actual_text (plain_window b.window.now))) };
+    ghost output = { λ b. Some (bound_text b.window.now.kind.rank
+        (cell_type b.window.now.kind.cell) (string_bytes b.name.now)
+        (actual_text (plain_window b.window.now))) };
 
     fn fmt<W: fmt::Write>(&self, f: &mut fmt::Formatter<W>) -> fmt::Result {
         write!(f, "{} {} = {};", self.window.kind, self.name, self.window)

@@ -1,7 +1,10 @@
 //! The text of a file of C, appended piece by piece to one string.
 ghost use Rattle.std.specs.Prelude.{◌≡◌, ◌++◌, [], map, codes, IfOk, OnOk, string_bytes};
 ghost use Rattle.c_tree.specs.CTree.{cblock};
-ghost use Rattle.c_tree.specs.CText.{line, deeper, margin, each, or_word, or_else, head_text, block_text, inner_text, formal_text, signature_text, function_text, report_text, include_text, struct_text, field_text, preamble_text, text_of};
+ghost use Rattle.c_tree.specs.CText.{line, deeper, margin, each, or_word, or_else, head_text};
+ghost use Rattle.c_tree.specs.CText.{block_text, inner_text, formal_text, signature_text};
+ghost use Rattle.c_tree.specs.CText.{function_text, report_text, include_text, struct_text};
+ghost use Rattle.c_tree.specs.CText.{field_text, preamble_text, text_of};
 ghost use Rattle.c_tree.specs.Plain.{plain_statement, plain_struct, plain_param, plain_function, plain_line, plain_unit};
 
 use crate::show::type_word;
@@ -32,7 +35,10 @@ fn put_other(
     inner: &str,
     other: &CBlock,
 ) -> Result<(), AllocError>
-    ensures { OnOk result (string_bytes out.new ≡ string_bytes out.old ++ or_else indent.now (cblock other.now) (block_text inner.now (cblock other.now))) }
+    ensures { OnOk result
+        (string_bytes out.new
+        ≡ string_bytes out.old
+        ++ or_else indent.now (cblock other.now) (block_text inner.now (cblock other.now))) }
 {
     if other.is_empty() {
         return put_line(out, indent, "}");
@@ -52,7 +58,12 @@ fn put_branches(
     then: &CBlock,
     other: &CBlock,
 ) -> Result<(), AllocError>
-    ensures { OnOk result (string_bytes out.new ≡ string_bytes out.old ++ (block_text (deeper indent.now) (cblock then.now) ++ or_else indent.now (cblock other.now) (block_text (deeper indent.now) (cblock other.now)))) }
+    ensures { OnOk result
+        (string_bytes out.new
+        ≡ string_bytes out.old
+        ++ (block_text (deeper indent.now) (cblock then.now)
+        ++ or_else indent.now (cblock other.now)
+        (block_text (deeper indent.now) (cblock other.now)))) }
 {
     let inner = inner_indent(alloc, indent)?;
     put_block(alloc, out, inner.as_str(), then)?;
@@ -63,7 +74,10 @@ fn put_branches(
 /// Appends the body of a loop and the brace.
 #[cycle(put)]
 fn put_body(alloc: Global, out: &mut String, indent: &str, body: &CBlock) -> Result<(), AllocError>
-    ensures { OnOk result (string_bytes out.new ≡ string_bytes out.old ++ (block_text (deeper indent.now) (cblock body.now) ++ line indent.now (codes "}"))) }
+    ensures { OnOk result
+        (string_bytes out.new
+        ≡ string_bytes out.old
+        ++ (block_text (deeper indent.now) (cblock body.now) ++ line indent.now (codes "}"))) }
 {
     let inner = inner_indent(alloc, indent)?;
     put_block(alloc, out, inner.as_str(), body)?;
@@ -115,7 +129,10 @@ fn put_block(
 
 /// Appends parameters with commas between, or `void` where there is none.
 fn put_params(out: &mut String, params: &[CParam]) -> Result<(), AllocError>
-    ensures { OnOk result (string_bytes out.new ≡ string_bytes out.old ++ or_word (codes "void") (map formal_text (map plain_param params.now))) }
+    ensures { OnOk result
+        (string_bytes out.new
+        ≡ string_bytes out.old
+        ++ or_word (codes "void") (map formal_text (map plain_param params.now))) }
 {
     let Some((first, rest)) = params.split_first() else {
         return out.push_str("void");
@@ -129,7 +146,11 @@ fn put_params(out: &mut String, params: &[CParam]) -> Result<(), AllocError>
 
 /// Appends the first line of a function.
 fn put_signature(out: &mut String, f: &CFunction) -> Result<(), AllocError>
-    ensures { OnOk result (string_bytes out.new ≡ string_bytes out.old ++ margin (signature_text (string_bytes f.now.name) (or_word (codes "void") (map formal_text (map plain_param f.now.params.items))))) }
+    ensures { OnOk result
+        (string_bytes out.new
+        ≡ string_bytes out.old
+        ++ margin (signature_text (string_bytes f.now.name)
+        (or_word (codes "void") (map formal_text (map plain_param f.now.params.items))))) }
 {
     write!(out, "void {}(", f.name)?;
     put_params(out, &f.params)?;
@@ -224,7 +245,10 @@ fn put_fields(out: &mut String, fields: &[String]) -> Result<(), AllocError>
 
 /// Appends the functions.
 fn put_functions(alloc: Global, out: &mut String, functions: &[CFunction]) -> Result<(), AllocError>
-    ensures { OnOk result (string_bytes out.new ≡ string_bytes out.old ++ each (λ f. margin [] ++ function_text f) (map plain_function functions.now)) }
+    ensures { OnOk result
+        (string_bytes out.new
+        ≡ string_bytes out.old
+        ++ each (λ f. margin [] ++ function_text f) (map plain_function functions.now)) }
 {
     for f in functions {
         put_function(alloc, out, f)?;

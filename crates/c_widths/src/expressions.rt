@@ -25,7 +25,9 @@ pub(crate) fn are_narrow(bounds: &[Bound], es: &Indices) -> bool
 
 /// Whether both expressions fit.
 pub(crate) fn are_both_narrow(bounds: &[Bound], a: &Ctrl, b: &Ctrl) -> bool
-    ensures { result ≡ (magnitudes.is_narrow (most_in bounds.now) (control a.now) && magnitudes.is_narrow (most_in bounds.now) (control b.now)) }
+    ensures { result
+        ≡ (magnitudes.is_narrow (most_in bounds.now) (control a.now)
+        && magnitudes.is_narrow (most_in bounds.now) (control b.now)) }
 {
     magnitude(bounds, a).is_some() && magnitude(bounds, b).is_some()
 }
@@ -114,7 +116,9 @@ pub(crate) fn argument_magnitude(bounds: &[Bound], a: &Arg) -> Option<u64>
 
 /// Whether an expression fits, and is at most what a field can be.
 fn is_field_sized(bounds: &[Bound], e: &Ctrl) -> bool
-    ensures { result ≡ (magnitudes.is_narrow (most_in bounds.now) (control e.now) && nat_le (magnitudes.magnitude (most_in bounds.now) (control e.now)) (2 ^ 48)) }
+    ensures { result
+        ≡ (magnitudes.is_narrow (most_in bounds.now) (control e.now)
+        && nat_le (magnitudes.magnitude (most_in bounds.now) (control e.now)) (2 ^ 48)) }
 {
     match magnitude(bounds, e) {
         Some(m) => m <= FIELD_LIMIT,

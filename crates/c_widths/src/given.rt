@@ -37,7 +37,10 @@ impl Row {
     /// Gives at most `m` more to the parameter at the place `i`.
     fn raise(&mut self, i: usize, m: u64)
         ensures same { length self.new ≡ length self.old }
-        ensures each { (n : ℕ) → n < length self.old → get_or self.new n 0 ≡ (if n == i then max m (get_or self.old n 0) else get_or self.old n 0) }
+        ensures each { (n : ℕ)
+            → n < length self.old
+            → get_or self.new n 0
+            ≡ (if n == i then max m (get_or self.old n 0) else get_or self.old n 0) }
     {
         if i < self.most.len() {
             self.most[i] = m.max(self.most[i]);

@@ -90,7 +90,10 @@ pub(crate) fn fits_procedure(
     given: &mut Given,
 ) -> Result<bool, AllocError>
     ensures narrow { IfOk result (λ t. t ≡ is_narrow_by memories.now (most_from p.now.params (given_in given.old k)) (procedure p.now)) }
-    ensures given { IfOk result (λ t. t ≡ true → IsChanged (raised (most_from p.now.params (given_in given.old k)) (procedure p.now).body) given.old given.new) }
+    ensures given { IfOk result
+        (λ t. t ≡ true
+        → IsChanged (raised (most_from p.now.params (given_in given.old k))
+        (procedure p.now).body) given.old given.new) }
 {
     let bounds = bounds_of(alloc, p.params.as_slice(), given.to(k))?;
     if !have_narrow_dims(&bounds, &p.params) || !are_narrow_tests(&bounds, &p.asserts) {

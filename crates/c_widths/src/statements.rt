@@ -5,7 +5,9 @@ ghost use Rattle.exo_tree.specs.PlainBinder.{binding};
 ghost use Rattle.exo_tree.specs.PlainControl.{control};
 ghost use Rattle.exo_tree.specs.PlainDatum.{datum};
 ghost use Rattle.exo_tree.specs.PlainStatement.{statement};
-ghost use Rattle.c_widths.specs.Widths.{are_narrow, is_narrow_datum, are_narrow_arguments, own_dims, fits_cells, fits_stack, is_narrow_block, is_narrow_statement};
+ghost use Rattle.c_widths.specs.Widths.{are_narrow, is_narrow_datum, are_narrow_arguments};
+ghost use Rattle.c_widths.specs.Widths.{own_dims, fits_cells, fits_stack, is_narrow_block};
+ghost use Rattle.c_widths.specs.Widths.{is_narrow_statement};
 ghost use Rattle.c_widths.specs.Raises.{raised_by, raised, step_raised};
 ghost use Rattle.c_widths.specs.Given.{IsChanged};
 ghost use Rattle.c_widths.specs.Bounds.{most_in};
@@ -100,8 +102,15 @@ fn fits_loop(
     body: &Block,
     given: &mut Given,
 ) -> Result<bool, AllocError>
-    ensures narrow { IfOk result (λ t. t ≡ is_narrow_statement memories.now (most_in bounds.now) (For (binding i.now) (control lo.now) (control hi.now) (block body.now))) }
-    ensures given { IfOk result (λ t. t ≡ true → IsChanged (step_raised (most_in bounds.now) (For (binding i.now) (control lo.now) (control hi.now) (block body.now))) given.old given.new) }
+    ensures narrow { IfOk result
+        (λ t. t
+        ≡ is_narrow_statement memories.now (most_in bounds.now)
+        (For (binding i.now) (control lo.now) (control hi.now) (block body.now))) }
+    ensures given { IfOk result
+        (λ t. t ≡ true
+        → IsChanged (step_raised (most_in bounds.now)
+        (For (binding i.now) (control lo.now) (control hi.now)
+        (block body.now))) given.old given.new) }
 {
     let (Some(low), Some(high)) = (magnitude(bounds, lo), magnitude(bounds, hi)) else {
         return Ok(false);
@@ -127,8 +136,14 @@ fn fits_branches(
     b: &Block,
     given: &mut Given,
 ) -> Result<bool, AllocError>
-    ensures narrow { IfOk result (λ t. t ≡ (is_narrow_block memories.now (most_in bounds.now) (block a.now) && is_narrow_block memories.now (most_in bounds.now) (block b.now))) }
-    ensures given { IfOk result (λ t. t ≡ true → IsChanged (λ old. raised (most_in bounds.now) (block b.now) (raised (most_in bounds.now) (block a.now) old)) given.old given.new) }
+    ensures narrow { IfOk result
+        (λ t. t
+        ≡ (is_narrow_block memories.now (most_in bounds.now) (block a.now)
+        && is_narrow_block memories.now (most_in bounds.now) (block b.now))) }
+    ensures given { IfOk result
+        (λ t. t ≡ true
+        → IsChanged (λ old. raised (most_in bounds.now) (block b.now)
+        (raised (most_in bounds.now) (block a.now) old)) given.old given.new) }
 {
     if !fits_block(alloc, memories, bounds, a, given)? {
         return Ok(false);

@@ -5,7 +5,9 @@ ghost use Rattle.exo_tree.specs.PlainControl.{control, condition, coordinate};
 ghost use Rattle.exo_tree.specs.PlainParam.{parameter};
 ghost use Rattle.exo_tree.specs.PlainArgument.{argument};
 ghost use Rattle.exo_tree.specs.Spans.{is_span};
-ghost use Rattle.check_claims.specs.Arguments.{passed_for, number_for, truth_for, span_place, window_stride, stride_for, control_under, condition_under};
+ghost use Rattle.check_claims.specs.Arguments.{passed_for, number_for, truth_for, span_place};
+ghost use Rattle.check_claims.specs.Arguments.{window_stride, stride_for, control_under};
+ghost use Rattle.check_claims.specs.Arguments.{condition_under};
 
 use exo_tree::{Arg, Args, Cond, Coord, Ctrl, Id, Param, Params};
 use std::alloc::{AllocError, Global};

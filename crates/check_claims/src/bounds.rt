@@ -5,7 +5,8 @@ ghost use Rattle.exo_tree.specs.PlainControl.{control, coordinate};
 ghost use Rattle.exo_tree.specs.PlainDatum.{datum};
 ghost use Rattle.exo_tree.specs.PlainUnit.{program};
 ghost use Rattle.text_show.specs.Seen.{words_in};
-ghost use Rattle.check_claims.specs.Claims.{written_by, at_least_one, one_index, index_claims, coord_claims, window_claims, read_claims, store_claims};
+ghost use Rattle.check_claims.specs.Claims.{written_by, at_least_one, one_index, index_claims};
+ghost use Rattle.check_claims.specs.Claims.{coord_claims, window_claims, read_claims, store_claims};
 ghost use Rattle.check_claims.specs.Seen.{extents_in, writes_in, Writes-set};
 ghost use Rattle.check_claims.specs.Short.{has_few_params};
 
@@ -156,7 +157,11 @@ pub(crate) fn put_store(
     at: &[Ctrl],
     e: &DataExpr,
 ) -> Result<(), AllocError>
-    ensures { OnOk result (out.new ≡ out.old ++ store_claims (words_in site.now.words.now) (extents_in site.now.extents.now) x.0 (map control at.now) (datum e.now)) }
+    ensures { OnOk result
+        (out.new
+        ≡ out.old
+        ++ store_claims (words_in site.now.words.now) (extents_in site.now.extents.now) x.0
+        (map control at.now) (datum e.now)) }
 {
     put_indices(alloc, out, site.words, at, site.extents.get(x))?;
     put_reads(alloc, out, site, e)

@@ -1,5 +1,6 @@
 //! Claims of calls.
-ghost use Rattle.std.specs.Prelude.{◌≡◌, ◌+◌, ◌<◌, ◌^◌, [], ◌∷◌, ◌++◌, IsTrue, drop, length, map, flat_map, if◌then◌else◌, OnOk, slice_get, Some, option_map};
+ghost use Rattle.std.specs.Prelude.{◌≡◌, ◌+◌, ◌<◌, ◌^◌, [], ◌∷◌, ◌++◌, IsTrue, drop, length, map};
+ghost use Rattle.std.specs.Prelude.{flat_map, if◌then◌else◌, OnOk, slice_get, Some, option_map};
 ghost use Rattle.exo_tree.specs.Tree as tree;
 ghost use Rattle.exo_tree.specs.PlainBinder.{control_kind};
 ghost use Rattle.exo_tree.specs.PlainControl.{control, condition};
@@ -12,7 +13,10 @@ ghost use Rattle.text_show.specs.Seen.{words_in};
 ghost use Rattle.check_claims.specs.Claim as plain;
 ghost use Rattle.check_claims.specs.Pairs.{flat_zip};
 ghost use Rattle.check_claims.specs.Arguments.{control_under};
-ghost use Rattle.check_claims.specs.Claims.{as_shown, argument_window, given_claims, argument_size, equal_extents, passed_extents, passed_root, written_by, share_root, must_be_apart, pairs_with, pair_claims, asserted, call_claims};
+ghost use Rattle.check_claims.specs.Claims.{as_shown, argument_window, given_claims, argument_size};
+ghost use Rattle.check_claims.specs.Claims.{equal_extents, passed_extents, passed_root, written_by};
+ghost use Rattle.check_claims.specs.Claims.{share_root, must_be_apart, pairs_with, pair_claims};
+ghost use Rattle.check_claims.specs.Claims.{asserted, call_claims};
 ghost use Rattle.check_claims.specs.Seen.{extents_in};
 ghost use Rattle.check_claims.specs.Short.{has_few_params};
 
@@ -32,7 +36,11 @@ fn put_argument_window(
     site: &Site,
     a: &Arg,
 ) -> Result<(), AllocError>
-    ensures { OnOk result (out.new ≡ out.old ++ argument_window (words_in site.now.words.now) (extents_in site.now.extents.now) (argument a.now)) }
+    ensures { OnOk result
+        (out.new
+        ≡ out.old
+        ++ argument_window (words_in site.now.words.now) (extents_in site.now.extents.now)
+        (argument a.now)) }
 {
     match a {
         Arg::Ctrl(_) => Ok(()),
@@ -55,7 +63,12 @@ fn put_argument_windows(
     site: &Site,
     args: &[Arg],
 ) -> Result<(), AllocError>
-    ensures { OnOk result (out.new ≡ out.old ++ flat_map (argument_window (words_in site.now.words.now) (extents_in site.now.extents.now)) (map argument args.now)) }
+    ensures { OnOk result
+        (out.new
+        ≡ out.old
+        ++ flat_map (argument_window (words_in site.now.words.now)
+        (extents_in site.now.extents.now))
+        (map argument args.now)) }
 {
     for a in args {
         put_argument_window(alloc, out, site, a)?;
@@ -104,7 +117,11 @@ fn put_argument_sizes(
     params: &[Param],
     args: &[Arg],
 ) -> Result<(), AllocError>
-    ensures { OnOk result (out.new ≡ out.old ++ flat_zip (argument_size (words_in words.now)) (map parameter params.now) (map argument args.now)) }
+    ensures { OnOk result
+        (out.new
+        ≡ out.old
+        ++ flat_zip (argument_size (words_in words.now)) (map parameter params.now)
+        (map argument args.now)) }
 {
     for k in 0..params.len().min(args.len()) {
         put_argument_size(alloc, out, words, &params[k], &args[k])?;
@@ -121,7 +138,12 @@ fn put_equal(
     extent: &Ctrl,
     d: &Ctrl,
 ) -> Result<(), AllocError>
-    ensures { OnOk result (out.new ≡ out.old ++ as_shown (words_in words.now) (tree.Eq (control extent.now) (control_under passed.now.params.now passed.now.args.now (control d.now))) ∷ []) }
+    ensures { OnOk result
+        (out.new
+        ≡ out.old
+        ++ as_shown (words_in words.now)
+        (tree.Eq (control extent.now)
+        (control_under passed.now.params.now passed.now.args.now (control d.now))) ∷ []) }
 {
     let left = extent.duplicate(alloc)?;
     let right = control_under(alloc, passed, d)?;
@@ -137,7 +159,11 @@ fn put_equals(
     extents: &[Ctrl],
     dims: &[Ctrl],
 ) -> Result<(), AllocError>
-    ensures { OnOk result (out.new ≡ out.old ++ equal_extents (words_in words.now) (map control extents.now) (map (control_under passed.now.params.now passed.now.args.now) (map control dims.now))) }
+    ensures { OnOk result
+        (out.new
+        ≡ out.old
+        ++ equal_extents (words_in words.now) (map control extents.now)
+        (map (control_under passed.now.params.now passed.now.args.now) (map control dims.now))) }
 {
     for k in 0..extents.len().min(dims.len()) {
         put_equal(alloc, out, words, passed, &extents[k], &dims[k])?;
@@ -154,7 +180,12 @@ fn put_extents(
     p: &Param,
     a: &Arg,
 ) -> Result<(), AllocError>
-    ensures { OnOk result (out.new ≡ out.old ++ passed_extents (words_in site.now.words.now) (extents_in site.now.extents.now) passed.now.params.now passed.now.args.now (parameter p.now) (argument a.now)) }
+    ensures { OnOk result
+        (out.new
+        ≡ out.old
+        ++ passed_extents (words_in site.now.words.now)
+        (extents_in site.now.extents.now) passed.now.params.now passed.now.args.now
+        (parameter p.now) (argument a.now)) }
 {
     let dims = dims_of(&p.kind);
     match a {
@@ -177,7 +208,12 @@ fn put_argument_extents(
     params: &[Param],
     args: &[Arg],
 ) -> Result<(), AllocError>
-    ensures { OnOk result (out.new ≡ out.old ++ flat_zip (passed_extents (words_in site.now.words.now) (extents_in site.now.extents.now) passed.now.params.now passed.now.args.now) (map parameter params.now) (map argument args.now)) }
+    ensures { OnOk result
+        (out.new
+        ≡ out.old
+        ++ flat_zip (passed_extents (words_in site.now.words.now)
+        (extents_in site.now.extents.now) passed.now.params.now passed.now.args.now)
+        (map parameter params.now) (map argument args.now)) }
 {
     for k in 0..params.len().min(args.len()) {
         put_extents(alloc, out, site, passed, &params[k], &args[k])?;
@@ -207,7 +243,9 @@ struct Slot<'a> {
 
 /// Whether parts of one buffer are passed for two parameters.
 fn share_root(site: &Site, callee: ProcId, first: &Slot, second: &Slot) -> bool
-    ensures { result ≡ share_root (roots_in site.now.roots.now) (written_by (program site.now.unit.now) callee.0) (argument first.now.arg.now) (argument second.now.arg.now) }
+    ensures { result
+        ≡ share_root (roots_in site.now.roots.now) (written_by (program site.now.unit.now) callee.0)
+        (argument first.now.arg.now) (argument second.now.arg.now) }
 {
     match (
         passed_root(site.roots, first.arg),
@@ -235,7 +273,14 @@ fn put_pair(
     first: &Slot,
     second: &Slot,
 ) -> Result<(), AllocError>
-    ensures { OnOk result (out.new ≡ out.old ++ (if must_be_apart (roots_in site.now.roots.now) (written_by (program site.now.unit.now) callee.0) (parameter first.now.param.now) (argument first.now.arg.now) (parameter second.now.param.now) (argument second.now.arg.now) then plain.Apart first.now.number second.now.number ∷ [] else [])) }
+    ensures { OnOk result
+        (out.new
+        ≡ out.old
+        ++ (if must_be_apart (roots_in site.now.roots.now)
+        (written_by (program site.now.unit.now) callee.0) (parameter first.now.param.now)
+        (argument first.now.arg.now) (parameter second.now.param.now) (argument second.now.arg.now)
+        then plain.Apart first.now.number second.now.number ∷ []
+        else [])) }
 {
     if share_root(site, callee, first, second)
         && (is_written(site, callee, first.param) || is_written(site, callee, second.param))
@@ -255,7 +300,14 @@ fn put_pairs_with(
     args: &[Arg],
 ) -> Result<(), AllocError>
     requires { length params.now < 2 ^ 32 }
-    ensures { OnOk result (out.new ≡ out.old ++ pairs_with (roots_in site.now.roots.now) (written_by (program site.now.unit.now) callee.0) first.now.number (parameter first.now.param.now) (argument first.now.arg.now) (first.now.number + 1) (map parameter (drop (first.now.number + 1) params.now)) (map argument (drop (first.now.number + 1) args.now))) }
+    ensures { OnOk result
+        (out.new
+        ≡ out.old
+        ++ pairs_with (roots_in site.now.roots.now)
+        (written_by (program site.now.unit.now) callee.0) first.now.number
+        (parameter first.now.param.now) (argument first.now.arg.now) (first.now.number + 1)
+        (map parameter (drop (first.now.number + 1) params.now))
+        (map argument (drop (first.now.number + 1) args.now))) }
 {
     for k in first.number as usize + 1..params.len().min(args.len()) {
         let second = Slot {
@@ -277,7 +329,12 @@ fn put_pairs(
     args: &[Arg],
 ) -> Result<(), AllocError>
     requires { length params.now < 2 ^ 32 }
-    ensures { OnOk result (out.new ≡ out.old ++ pair_claims (roots_in site.now.roots.now) (written_by (program site.now.unit.now) callee.0) 0 (map parameter params.now) (map argument args.now)) }
+    ensures { OnOk result
+        (out.new
+        ≡ out.old
+        ++ pair_claims (roots_in site.now.roots.now)
+        (written_by (program site.now.unit.now) callee.0) 0 (map parameter params.now)
+        (map argument args.now)) }
 {
     for j in 0..params.len().min(args.len()) {
         let first = Slot {
@@ -298,7 +355,11 @@ fn put_asserted(
     passed: &Passed,
     asserts: &[Cond],
 ) -> Result<(), AllocError>
-    ensures { OnOk result (out.new ≡ out.old ++ map (asserted (words_in callee.now) passed.now.params.now passed.now.args.now) (map condition asserts.now)) }
+    ensures { OnOk result
+        (out.new
+        ≡ out.old
+        ++ map (asserted (words_in callee.now) passed.now.params.now passed.now.args.now)
+        (map condition asserts.now)) }
 {
     for c in asserts {
         let says = condition_under(alloc, passed, c)?;
@@ -317,7 +378,12 @@ fn put_call_of<'a>(
     args: &Args,
 ) -> Result<(), AllocError>
     requires { IsTrue (has_few_params (procedure q.now)) }
-    ensures { OnOk result (out.new ≡ out.old ++ call_claims (words_in site.now.words.now) (program site.now.unit.now) (extents_in site.now.extents.now) (roots_in site.now.roots.now) (written_by (program site.now.unit.now) k.0) (Some (procedure q.now)) args.now) }
+    ensures { OnOk result
+        (out.new
+        ≡ out.old
+        ++ call_claims (words_in site.now.words.now) (program site.now.unit.now)
+        (extents_in site.now.extents.now) (roots_in site.now.roots.now)
+        (written_by (program site.now.unit.now) k.0) (Some (procedure q.now)) args.now) }
 {
     let passed = Passed {
         params: &q.params,
@@ -340,7 +406,13 @@ pub(crate) fn put_call(
     k: ProcId,
     args: &Args,
 ) -> Result<(), AllocError>
-    ensures { OnOk result (out.new ≡ out.old ++ call_claims (words_in site.now.words.now) (program site.now.unit.now) (extents_in site.now.extents.now) (roots_in site.now.roots.now) (written_by (program site.now.unit.now) k.0) (slice_get (program site.now.unit.now).procedures k.0) args.now) }
+    ensures { OnOk result
+        (out.new
+        ≡ out.old
+        ++ call_claims (words_in site.now.words.now) (program site.now.unit.now)
+        (extents_in site.now.extents.now) (roots_in site.now.roots.now)
+        (written_by (program site.now.unit.now) k.0)
+        (slice_get (program site.now.unit.now).procedures k.0) args.now) }
 {
     match site.unit.procs.get(k.0 as usize) {
         None => Ok(()),

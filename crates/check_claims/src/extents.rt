@@ -5,7 +5,9 @@ ghost use Rattle.exo_tree.specs.PlainControl.{control, coordinate};
 ghost use Rattle.exo_tree.specs.PlainParam.{parameter_kind};
 ghost use Rattle.exo_tree.specs.PlainStatement.{statement};
 ghost use Rattle.exo_tree.specs.PlainProcedure.{procedure};
-ghost use Rattle.check_claims.specs.Extents.{no_extents, with_extents, span_extent, span_extents, dims_of, with_params, with_block, with_statement, extents_of};
+ghost use Rattle.check_claims.specs.Extents.{no_extents, with_extents, span_extent, span_extents};
+ghost use Rattle.check_claims.specs.Extents.{dims_of, with_params, with_block, with_statement};
+ghost use Rattle.check_claims.specs.Extents.{extents_of};
 ghost use Rattle.check_claims.specs.Seen.{extents_in};
 
 use exo_tree::{Block, Coord, Ctrl, Id, Indices, ParamKind, Params, Proc, Stmt};

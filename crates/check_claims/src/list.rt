@@ -92,7 +92,11 @@ impl Claims {
         words: &Words,
         quoted: &Cond,
     ) -> Result<(), AllocError>
-        ensures { OnOk result (self.new ≡ self.old ++ plain.Is (condition says) (condition_text (words_in words.now) (condition quoted.now)) ∷ []) }
+        ensures { OnOk result
+            (self.new
+            ≡ self.old
+            ++ plain.Is (condition says)
+            (condition_text (words_in words.now) (condition quoted.now)) ∷ []) }
     {
         let says = Box::new(alloc, says)?;
         let mut text = String::new(alloc);

@@ -14,7 +14,9 @@ ghost use Rattle.exo_modes.specs.Seen.{table_says};
 ghost use Rattle.affine_places.specs.Roots.{roots_of, unit_roots};
 ghost use Rattle.affine_places.specs.Seen.{roots_in};
 ghost use Rattle.text_show.specs.Seen.{words_in};
-ghost use Rattle.check_claims.specs.Claims.{write_claims, own_claims, into, block_claims, inner_claims, param_claims, procedure_claims, claims_of, unit_claims};
+ghost use Rattle.check_claims.specs.Claims.{write_claims, own_claims, into, block_claims};
+ghost use Rattle.check_claims.specs.Claims.{inner_claims, param_claims, procedure_claims};
+ghost use Rattle.check_claims.specs.Claims.{claims_of, unit_claims};
 ghost use Rattle.check_claims.specs.PlainClaim.{placed};
 ghost use Rattle.check_claims.specs.Seen.{extents_in};
 ghost use Rattle.check_claims.specs.Short.{is_short_inside, step_is_short, has_few_params};
@@ -38,7 +40,11 @@ fn put_write(
     f: FieldId,
     a: &Arg,
 ) -> Result<(), AllocError>
-    ensures { OnOk result (out.new ≡ out.old ++ write_claims (words_in site.now.words.now) (field_kind (program site.now.unit.now).fields f.0) (argument a.now)) }
+    ensures { OnOk result
+        (out.new
+        ≡ out.old
+        ++ write_claims (words_in site.now.words.now)
+        (field_kind (program site.now.unit.now).fields f.0) (argument a.now)) }
 {
     match site.unit.fields.get(f.0 as usize) {
         None => Ok(()),
@@ -53,7 +59,11 @@ pub(crate) fn put_own(
     site: &Site,
     s: &Stmt,
 ) -> Result<(), AllocError>
-    ensures { OnOk result (out.new ≡ out.old ++ own_claims (words_in site.now.words.now) (program site.now.unit.now) (extents_in site.now.extents.now) (roots_in site.now.roots.now) (statement s.now)) }
+    ensures { OnOk result
+        (out.new
+        ≡ out.old
+        ++ own_claims (words_in site.now.words.now) (program site.now.unit.now)
+        (extents_in site.now.extents.now) (roots_in site.now.roots.now) (statement s.now)) }
 {
     match s {
         Stmt::Assign(x, at, e) => put_store(alloc, out, site, *x, at.as_slice(), e),
@@ -97,7 +107,12 @@ fn put_block(
     requires short { is_short (block b.now) ≡ true }
     requires inside { is_short_inside (block b.now) ≡ true }
     requires levels { length outer.now + levels (block b.now) < 33 }
-    ensures { OnOk result (map placed out.new.items ≡ map placed out.old.items ++ block_claims (words_in site.now.words.now) (program site.now.unit.now) (extents_in site.now.extents.now) (roots_in site.now.roots.now) outer.now (branch_taken branch) 0 (block b.now)) }
+    ensures { OnOk result
+        (map placed out.new.items
+        ≡ map placed out.old.items
+        ++ block_claims (words_in site.now.words.now) (program site.now.unit.now)
+        (extents_in site.now.extents.now) (roots_in site.now.roots.now) outer.now
+        (branch_taken branch) 0 (block b.now)) }
 {
     for k in 0..b.len() {
         let s = b.statement(k);
@@ -122,7 +137,12 @@ fn put_inner(
 ) -> Result<(), AllocError>
     requires inside { step_is_short (statement s.now) ≡ true }
     requires levels { length path.now + step_levels (statement s.now) < 33 }
-    ensures { OnOk result (map placed out.new.items ≡ map placed out.old.items ++ inner_claims (words_in site.now.words.now) (program site.now.unit.now) (extents_in site.now.extents.now) (roots_in site.now.roots.now) path.now (statement s.now)) }
+    ensures { OnOk result
+        (map placed out.new.items
+        ≡ map placed out.old.items
+        ++ inner_claims (words_in site.now.words.now) (program site.now.unit.now)
+        (extents_in site.now.extents.now) (roots_in site.now.roots.now) path.now
+        (statement s.now)) }
 {
     match s {
         Stmt::If(_, a, b) => {
@@ -159,7 +179,11 @@ fn put_procedure(
     requires short { is_short (block p.now.body) ≡ true }
     requires inside { is_short_inside (block p.now.body) ≡ true }
     requires levels { levels (block p.now.body) < 33 }
-    ensures { OnOk result (map placed out.new.items ≡ map placed out.old.items ++ procedure_claims (words_in site.now.words.now) (program site.now.unit.now) (extents_in site.now.extents.now) (roots_in site.now.roots.now) (procedure p.now)) }
+    ensures { OnOk result
+        (map placed out.new.items
+        ≡ map placed out.old.items
+        ++ procedure_claims (words_in site.now.words.now) (program site.now.unit.now)
+        (extents_in site.now.extents.now) (roots_in site.now.roots.now) (procedure p.now)) }
 {
     let top = Path::new();
     let mut own = Claims::new(alloc);

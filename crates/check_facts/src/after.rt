@@ -39,7 +39,10 @@ fn kept<'a>(
     one: Value<'a>,
     other: &Value<'a>,
 ) -> Result<Value<'a>, AllocError>
-    ensures { IfOk result (λ v. plain_value v ≡ kept_value (telling_of basis.now) path.now (plain_value one.entry) (plain_value other.now)) }
+    ensures { IfOk result
+        (λ v. plain_value v
+        ≡ kept_value (telling_of basis.now) path.now (plain_value one.entry)
+        (plain_value other.now)) }
 {
     let at = AtEntry {
         fields: &basis.unit.fields,
@@ -76,7 +79,10 @@ pub(crate) fn after<'a>(
     requires field { f.0 < basis.now.count }
     requires rules { IsTrue (statement_keeps_rules (statement s.now)) }
     requires room { length path.now + step_levels (statement s.now) ≤ 32 }
-    ensures { IfOk result (λ v. plain_value v ≡ value_after (telling_of basis.now) f.0 path.now (statement s.now) (plain_value value.entry)) }
+    ensures { IfOk result
+        (λ v. plain_value v
+        ≡ value_after (telling_of basis.now) f.0 path.now (statement s.now)
+        (plain_value value.entry)) }
 {
     match s {
         Stmt::Config(g, a) => {
@@ -116,7 +122,10 @@ fn at_end<'a>(
     requires rules { IsTrue (block_keeps_rules (block b.now)) }
     requires short { IsTrue (is_short (block b.now)) }
     requires room { length outer.now + levels (block b.now) ≤ 32 }
-    ensures { IfOk result (λ v. plain_value v ≡ value_at_end (telling_of basis.now) f.0 outer.now (branch_taken branch) zero (block b.now) (plain_value value.entry)) }
+    ensures { IfOk result
+        (λ v. plain_value v
+        ≡ value_at_end (telling_of basis.now) f.0 outer.now (branch_taken branch) zero (block b.now)
+        (plain_value value.entry)) }
 {
     let mut now = value;
     for k in 0..b.len() {

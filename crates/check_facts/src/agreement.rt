@@ -39,7 +39,10 @@ fn rights_agree(
     a: &Right<'_>,
     b: &Right<'_>,
 ) -> Result<bool, AllocError>
-    ensures { IfOk result (λ t. t ≡ values_agree (entry_reading at.now.fields.now (roots_in at.now.roots.now)) (argument a.now.side.now) (argument b.now.side.now)) }
+    ensures { IfOk result
+        (λ t. t
+        ≡ values_agree (entry_reading at.now.fields.now (roots_in at.now.roots.now))
+        (argument a.now.side.now) (argument b.now.side.now)) }
 {
     match a.side {
         Arg::Ctrl(x) => match b.side {
@@ -66,7 +69,10 @@ pub(crate) fn is_same_value(
     one: &Value<'_>,
     other: &Value<'_>,
 ) -> Result<bool, AllocError>
-    ensures { IfOk result (λ t. t ≡ same_value (values_agree (entry_reading at.now.fields.now (roots_in at.now.roots.now))) (plain_value one.now) (plain_value other.now)) }
+    ensures { IfOk result
+        (λ t. t
+        ≡ same_value (values_agree (entry_reading at.now.fields.now (roots_in at.now.roots.now)))
+        (plain_value one.now) (plain_value other.now)) }
 {
     match one {
         Value::Entry => match other {

@@ -33,7 +33,9 @@ use std::marker::Model;
 fn first_level<'w>(alloc: Global, to: u32, trail: &mut Trail<'w>) -> Level<'w>
     ensures branch { branch_taken result.branch ≡ places.Main }
     ensures index { result.index ≤ to }
-    ensures stand { (g : basis.Ground) (body : Block) → Stand g [] (body_in body) at_entry (levels_of trail.old) → StandIn g [] body at_entry result (levels_of trail.new) }
+    ensures stand { (g : basis.Ground) (body : Block)
+        → Stand g [] (body_in body) at_entry (levels_of trail.old)
+        → StandIn g [] body at_entry result (levels_of trail.new) }
 {
     match trail.take(Branch::Main, to) {
         Some(level) => level,
@@ -57,8 +59,16 @@ fn descend<'w>(
     requires place { IsSome (opened 1 (step_taken first ∷ map step_taken steps.now) (procedure basis.now.proc.now).body) }
     requires rules { IsTrue (may_be_walked (procedure basis.now.proc.now)) }
     requires stand { Stand basis.now [] (body_in (procedure basis.now.proc.now).body) at_entry (levels_of trail.old) }
-    ensures facts { Added result basis.now (round_facts (telling_of basis.now) (opened 1 (step_taken first ∷ map step_taken steps.now) (procedure basis.now.proc.now).body)) context.old context.new }
-    ensures known { IfOk result (λ facts. facts ≡ facts_from zero basis.now.count (known_at_place (program basis.now.unit.now) (procedure basis.now.proc.now) (opened 1 (step_taken first ∷ map step_taken steps.now) (procedure basis.now.proc.now).body))) }
+    ensures facts { Added result basis.now
+        (round_facts (telling_of basis.now)
+        (opened 1 (step_taken first ∷ map step_taken steps.now)
+        (procedure basis.now.proc.now).body)) context.old context.new }
+    ensures known { IfOk result
+        (λ facts. facts
+        ≡ facts_from zero basis.now.count
+        (known_at_place (program basis.now.unit.now) (procedure basis.now.proc.now)
+        (opened 1 (step_taken first ∷ map step_taken steps.now)
+        (procedure basis.now.proc.now).body))) }
     ensures stand { OnOk result (Stand basis.now [] (body_in (procedure basis.now.proc.now).body) at_entry (levels_of trail.new)) }
 {
     let outer = Path::new();
@@ -80,7 +90,11 @@ fn go<'w>(
     requires rules { IsTrue (may_be_walked (procedure basis.now.proc.now)) }
     requires stand { Stand basis.now [] (body_in (procedure basis.now.proc.now).body) at_entry (levels_of trail.old) }
     ensures facts { Added result basis.now (round_facts (telling_of basis.now) (place_of path.now basis.now)) context.old context.new }
-    ensures known { IfOk result (λ facts. facts ≡ facts_from zero basis.now.count (known_at_place (program basis.now.unit.now) (procedure basis.now.proc.now) (place_of path.now basis.now))) }
+    ensures known { IfOk result
+        (λ facts. facts
+        ≡ facts_from zero basis.now.count
+        (known_at_place (program basis.now.unit.now) (procedure basis.now.proc.now)
+        (place_of path.now basis.now))) }
     ensures stand { Stand basis.now [] (body_in (procedure basis.now.proc.now).body) at_entry (levels_of trail.new) }
 {
     match path.as_slice().split_first() {
@@ -122,7 +136,9 @@ impl<'w, 'r> Model for Cursor<'w, 'r> {
     ghost use Rattle.check_facts.specs.Contexts.{may_be_walked};
     ghost use Rattle.check_facts.specs.Trails.{levels_of, body_in, Stand};
 
-    ghost invariant = { λ c. (IsTrue (may_be_walked (procedure c.basis.proc.now))) × (Stand c.basis [] (body_in (procedure c.basis.proc.now).body) at_entry (levels_of c.trail)) };
+    ghost invariant = { λ c. (IsTrue (may_be_walked (procedure c.basis.proc.now)))
+        × (Stand c.basis [] (body_in (procedure c.basis.proc.now).body) at_entry
+        (levels_of c.trail)) };
 }
 
 impl<'w, 'r> Cursor<'w, 'r> {

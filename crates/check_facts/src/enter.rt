@@ -32,7 +32,11 @@ fn formula_where(
     c: &Cond,
 ) -> Result<Formula, FormError>
     requires { IsTrue (condition_keeps_rules (condition c.now)) }
-    ensures { FormulaMade result (condition_fits (program basis.now.unit.now) (procedure basis.now.proc.now) (known_in known.now) (condition c.now)) (condition_formula (program basis.now.unit.now) (procedure basis.now.proc.now) (known_in known.now) (condition c.now)) }
+    ensures { FormulaMade result
+        (condition_fits (program basis.now.unit.now) (procedure basis.now.proc.now)
+        (known_in known.now) (condition c.now))
+        (condition_formula (program basis.now.unit.now) (procedure basis.now.proc.now)
+        (known_in known.now) (condition c.now)) }
 {
     let facts = known.facts(alloc, basis.count)?;
     let at = AtPlace {
@@ -52,7 +56,10 @@ pub(crate) fn add_holds(
     context: &mut Context,
 ) -> Result<(), FormError>
     requires { IsTrue (condition_keeps_rules (condition c.now)) }
-    ensures { (first : KnownFields) → SameBelow basis.now.count (known_in known.now) first → Added result basis.now (record { known = first; fact = Holds (condition c.now) } ∷ []) context.old context.new }
+    ensures { (first : KnownFields)
+        → SameBelow basis.now.count (known_in known.now) first
+        → Added result basis.now
+        (record { known = first; fact = Holds (condition c.now) } ∷ []) context.old context.new }
 {
     let f = formula_where(basis, alloc, known, c)?;
     context.push(f)?;
@@ -75,7 +82,10 @@ fn add_fails(
     context: &mut Context,
 ) -> Result<(), FormError>
     requires { IsTrue (condition_keeps_rules (condition c.now)) }
-    ensures { (first : KnownFields) → SameBelow basis.now.count (known_in known.now) first → Added result basis.now (record { known = first; fact = Fails (condition c.now) } ∷ []) context.old context.new }
+    ensures { (first : KnownFields)
+        → SameBelow basis.now.count (known_in known.now) first
+        → Added result basis.now
+        (record { known = first; fact = Fails (condition c.now) } ∷ []) context.old context.new }
 {
     let f = formula_where(basis, alloc, known, c)?;
     push_denied(alloc, &f, context)?;
@@ -91,7 +101,10 @@ fn add_made(
     context: &mut Context,
 ) -> Result<(), FormError>
     requires { IsTrue (condition_keeps_rules (condition c)) }
-    ensures { (first : KnownFields) → SameBelow basis.now.count (known_in known.now) first → Added result basis.now (record { known = first; fact = Holds (condition c) } ∷ []) context.old context.new }
+    ensures { (first : KnownFields)
+        → SameBelow basis.now.count (known_in known.now) first
+        → Added result basis.now
+        (record { known = first; fact = Holds (condition c) } ∷ []) context.old context.new }
 {
     let added = add_holds(basis, alloc, known, &c, context);
     // In one call: at the end of the function each of its variants would be a way of its own to check.
@@ -109,7 +122,11 @@ pub(crate) fn add_at_most(
     context: &mut Context,
 ) -> Result<(), FormError>
     requires { IsTrue (keeps_rules (control a) && keeps_rules (control b)) }
-    ensures { (first : KnownFields) → SameBelow basis.now.count (known_in known.now) first → Added result basis.now (record { known = first; fact = Holds (Le (control a) (control b)) } ∷ []) context.old context.new }
+    ensures { (first : KnownFields)
+        → SameBelow basis.now.count (known_in known.now) first
+        → Added result basis.now
+        (record { known = first; fact = Holds (Le (control a) (control b)) }
+        ∷ []) context.old context.new }
 {
     add_made(basis, alloc, known, Cond::Le(a, b), context)
 }
@@ -125,7 +142,12 @@ fn add_bounds(
     context: &mut Context,
 ) -> Result<(), FormError>
     requires { IsTrue (keeps_rules (control lo.now) && keeps_rules (control hi.now)) }
-    ensures { (first : KnownFields) → SameBelow basis.now.count (known_in known.now) first → Added result basis.now (record { known = first; fact = Holds (Le (control lo.now) (Var i.0)) } ∷ record { known = first; fact = Holds (Lt (Var i.0) (control hi.now)) } ∷ []) context.old context.new }
+    ensures { (first : KnownFields)
+        → SameBelow basis.now.count (known_in known.now) first
+        → Added result basis.now
+        (record { known = first; fact = Holds (Le (control lo.now) (Var i.0)) }
+        ∷ record { known = first; fact = Holds (Lt (Var i.0) (control hi.now)) }
+        ∷ []) context.old context.new }
 {
     let low = lo.duplicate(alloc)?;
     add_at_most(basis, alloc, known, low, Ctrl::Var(i), context)?;
@@ -143,7 +165,10 @@ pub(crate) fn enter(
     context: &mut Context,
 ) -> Result<(), FormError>
     requires { IsTrue (statement_keeps_rules (statement s.now)) }
-    ensures { (first : KnownFields) → SameBelow basis.now.count (known_in known.now) first → Added result basis.now (entered (branch_taken branch) (statement s.now) first) context.old context.new }
+    ensures { (first : KnownFields)
+        → SameBelow basis.now.count (known_in known.now) first
+        → Added result basis.now
+        (entered (branch_taken branch) (statement s.now) first) context.old context.new }
 {
     match s {
         Stmt::For(i, lo, hi, _) => add_bounds(basis, alloc, known, i.id, lo, hi, context),

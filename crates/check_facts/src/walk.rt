@@ -38,7 +38,9 @@ fn each_after<'a>(
 ) -> Result<(), AllocError>
     requires rules { IsTrue (statement_keeps_rules (statement s.now)) }
     requires room { length path.now + step_levels (statement s.now) ≤ 32 }
-    ensures { OnOk result (SameBelow basis.now.count (known_in known.new) (after (telling_of basis.now) path.now (statement s.now) (known_in known.old))) }
+    ensures { OnOk result
+        (SameBelow basis.now.count (known_in known.new)
+        (after (telling_of basis.now) path.now (statement s.now) (known_in known.old))) }
 {
     for f in 0..basis.count {
         let value = after(basis, alloc, FieldId(f), path, s, known.get(FieldId(f)))?;
@@ -57,7 +59,9 @@ fn all_after<'a>(
 ) -> Result<(), AllocError>
     requires rules { IsTrue (statement_keeps_rules (statement s.now)) }
     requires room { length path.now + step_levels (statement s.now) ≤ 32 }
-    ensures { OnOk result (SameBelow basis.now.count (known_in known.new) (after (telling_of basis.now) path.now (statement s.now) (known_in known.old))) }
+    ensures { OnOk result
+        (SameBelow basis.now.count (known_in known.new)
+        (after (telling_of basis.now) path.now (statement s.now) (known_in known.old))) }
 {
     match s {
         Stmt::Config(g, a) => known.set(*g, Value::Written(Right { side: a })),
@@ -115,7 +119,10 @@ pub(crate) fn bring<'a>(
     requires room { length outer.now + levels (block b.now) ≤ 32 }
     ensures branch { IfOk result (λ l. l.branch ≡ level.entry.branch) }
     ensures index { IfOk result (λ l. l.index ≡ to) }
-    ensures stand { (first : KnownFields) → StandIn basis.now outer.now (block b.now) first level.entry (levels_of trail.old) → IfOk result (λ l. StandIn basis.now outer.now (block b.now) first l (levels_of trail.new)) }
+    ensures stand { (first : KnownFields)
+        → StandIn basis.now outer.now (block b.now) first level.entry (levels_of trail.old)
+        → IfOk result
+        (λ l. StandIn basis.now outer.now (block b.now) first l (levels_of trail.new)) }
 {
     if level.index == to {
         return Ok(level);
@@ -153,7 +160,11 @@ fn inside<'a>(
 ) -> Result<Known<'a>, AllocError>
     requires rules { IsTrue (statement_keeps_rules (statement s.now)) }
     requires room { length path.now + step_levels (statement s.now) ≤ 32 }
-    ensures { (first : KnownFields) → SameBelow basis.now.count (known_in known.now) first → IfOk result (λ k. SameBelow basis.now.count (known_in k) (known_inside (telling_of basis.now) path.now (statement s.now) first)) }
+    ensures { (first : KnownFields)
+        → SameBelow basis.now.count (known_in known.now) first
+        → IfOk result
+        (λ k. SameBelow basis.now.count (known_in k)
+        (known_inside (telling_of basis.now) path.now (statement s.now) first)) }
 {
     let mut copied = known.duplicate(alloc, basis.count)?;
     if let Stmt::For(_, _, _, _) = s {

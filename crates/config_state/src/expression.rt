@@ -4,7 +4,9 @@ ghost use Rattle.exo_tree.specs.PlainControl.{control, condition, coordinate};
 ghost use Rattle.exo_tree.specs.PlainDatum.{datum};
 ghost use Rattle.exo_tree.specs.PlainArgument.{argument};
 ghost use Rattle.exo_tree.specs.PlainParam.{parameter_kind};
-ghost use Rattle.meaning_laws.specs.Live.{read_by_control, read_by_controls, read_by_condition, read_by_datum, read_by_coords, read_by_argument, read_by_arguments};
+ghost use Rattle.meaning_laws.specs.Live.{read_by_control, read_by_controls, read_by_condition};
+ghost use Rattle.meaning_laws.specs.Live.{read_by_datum, read_by_coords, read_by_argument};
+ghost use Rattle.meaning_laws.specs.Live.{read_by_arguments};
 ghost use Rattle.meaning_laws.specs.UnitFields.{read_by_params, read_by_conditions, read_by_kind};
 ghost use Rattle.config_state.specs.FieldSets.{Marked};
 

@@ -31,7 +31,11 @@ fn block_at<'a>(b: &'a Block, path: &[Step]) -> Option<&'a Block>
 
 /// So many statements of a block from an index on, where they are there.
 fn cut<'a>(b: &'a Block, from: usize, count: usize) -> Option<Piece<'a>>
-    ensures { MatchOption result (length b.now < from + count) (λ r. (from + count ≤ length b.now) × (r.block.now ≡ b.now) × (r.from ≡ from) × (r.to ≡ from + count)) }
+    ensures { MatchOption result (length b.now < from + count)
+        (λ r. (from + count ≤ length b.now)
+        × (r.block.now ≡ b.now)
+        × (r.from ≡ from)
+        × (r.to ≡ from + count)) }
 {
     if count > b.len() || from > b.len() - count {
         return None;
@@ -45,7 +49,9 @@ fn cut<'a>(b: &'a Block, from: usize, count: usize) -> Option<Piece<'a>>
 
 /// So many statements of a procedure from a path on; None exactly where they are not there.
 pub(crate) fn piece_at<'a>(unit: &'a Unit, p: ProcId, path: &Path, count: u32) -> Option<Piece<'a>>
-    ensures { MatchOption result (piece_at (program unit.now) p.0 path.now count ≡ None) (λ r. piece_at (program unit.now) p.0 path.now count ≡ Some (block (slice_range r.block.now r.from r.to))) }
+    ensures { MatchOption result (piece_at (program unit.now) p.0 path.now count ≡ None)
+        (λ r. piece_at (program unit.now) p.0 path.now count
+        ≡ Some (block (slice_range r.block.now r.from r.to))) }
 {
     let body = &unit.procs.get(p.0 as usize)?.body;
     let steps = path.as_slice();

@@ -101,7 +101,11 @@ pub fn read(
 ) -> Result<Vec<FieldId>, AllocError>
     requires place { IsSome (piece_at (program unit.now) p.0 path.now count) }
     requires numbered { length (program unit.now).fields < 4294967296 }
-    ensures { IfOk result (λ v. IfSome (piece_at (program unit.now) p.0 path.now count) (λ b. map (λ (f : FieldId). f.0) v.items ≡ fields_where (length (program unit.now).fields) (λ f. reads_field (unit_reads (program unit.now).procedures) f b))) }
+    ensures { IfOk result
+        (λ v. IfSome (piece_at (program unit.now) p.0 path.now count)
+        (λ b. map (λ (f : FieldId). f.0) v.items
+        ≡ fields_where (length (program unit.now).fields)
+        (λ f. reads_field (unit_reads (program unit.now).procedures) f b))) }
 {
     let table = read_table(alloc, unit)?;
     let mut set = FieldSet::empty(alloc, unit.fields.len())?;

@@ -1,5 +1,6 @@
 //! Sets of a unit's configuration fields.
-ghost use Rattle.std.specs.Prelude.{◌≡◌, ◌++◌, ◌==◌, ◌&&◌, not, [], ◌∷◌, ◌<◌, false, length, map, replicate, IfOk, OnOk, OnErr, slice_get, option_map};
+ghost use Rattle.std.specs.Prelude.{◌≡◌, ◌++◌, ◌==◌, ◌&&◌, not, [], ◌∷◌, ◌<◌, false, length, map};
+ghost use Rattle.std.specs.Prelude.{replicate, IfOk, OnOk, OnErr, slice_get, option_map};
 ghost use Rattle.std.specs.Option.{option_copied};
 ghost use Rattle.config_state.specs.FieldSets.{contains, in_table, Marked, Changed, fields_where};
 

@@ -74,7 +74,11 @@ pub fn written(
 ) -> Result<Vec<FieldId>, AllocError>
     requires place { IsSome (piece_at (program unit.now) p.0 path.now count) }
     requires numbered { length (program unit.now).fields < 4294967296 }
-    ensures { IfOk result (λ v. IfSome (piece_at (program unit.now) p.0 path.now count) (λ b. map (λ (f : FieldId). f.0) v.items ≡ fields_where (length (program unit.now).fields) (λ f. writes_field (unit_writes (program unit.now).procedures) f b))) }
+    ensures { IfOk result
+        (λ v. IfSome (piece_at (program unit.now) p.0 path.now count)
+        (λ b. map (λ (f : FieldId). f.0) v.items
+        ≡ fields_where (length (program unit.now).fields)
+        (λ f. writes_field (unit_writes (program unit.now).procedures) f b))) }
 {
     let table = written_table(alloc, unit)?;
     let mut set = FieldSet::empty(alloc, unit.fields.len())?;

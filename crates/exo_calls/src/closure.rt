@@ -66,7 +66,8 @@ fn is_followed(p: &Proc, at: usize, through: Through, marks: &Marks) -> bool
 /// Marks what a procedure calls, where its calls are followed.
 #[tactic(auto, using(crate::proofs::Sets::marked_off, crate::proofs::Sets::marked_on))]
 fn mark_called_from(p: &Proc, at: usize, through: Through, marks: &mut Marks)
-    ensures { Marked (λ k. (contains marks.old at && passed through (procedure p.now)) && calls k (procedure p.now).body) marks.old marks.new }
+    ensures { Marked (λ k. (contains marks.old at && passed through (procedure p.now))
+        && calls k (procedure p.now).body) marks.old marks.new }
 {
     if !is_followed(p, at, through, marks) {
         return;

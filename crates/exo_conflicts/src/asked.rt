@@ -28,7 +28,9 @@ pub(crate) fn put_asked(
     requires side { side ≤ 1 }
     requires few { length turns.now ≤ 2 ^ 20 }
     requires low { IsTrue (access_is_low access.now) }
-    ensures { Asked result (use_fits (plain_use access.now)) side (copied (2 ^ 31) side (map plain_turn turns.now) (access_of (plain_use access.now))) into.old into.new }
+    ensures { Asked result (use_fits (plain_use access.now)) side
+        (copied (2 ^ 31) side (map plain_turn turns.now)
+        (access_of (plain_use access.now))) into.old into.new }
 {
     let twin = Twin {
         side,
@@ -72,7 +74,11 @@ pub(crate) fn put_meeting(
     requires order { IsTrue (order_is_low order.now) }
     requires first { IsTrue (access_is_low x.now) }
     requires second { IsTrue (access_is_low y.now) }
-    ensures { Exactly result (order_fits order.now && (use_fits (plain_use x.now) && use_fits (plain_use y.now))) (into.new ≡ meeting into.old (plain_order order.now) (2 ^ 31) (access_of (plain_use x.now)) (access_of (plain_use y.now))) }
+    ensures { Exactly result
+        (order_fits order.now && (use_fits (plain_use x.now) && use_fits (plain_use y.now)))
+        (into.new
+        ≡ meeting into.old (plain_order order.now) (2 ^ 31) (access_of (plain_use x.now))
+        (access_of (plain_use y.now))) }
 {
     put_order(alloc, order, into)?;
     let first = put_asked(alloc, 0, order.first, x, into)?;

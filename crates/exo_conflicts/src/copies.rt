@@ -13,7 +13,8 @@ ghost use Rattle.exo_effects.specs.PlainAccess.{plain_coord, CoordMade};
 ghost use Rattle.exo_effects.specs.PlainUses.{all_variables};
 ghost use Rattle.exo_effects.specs.Renamed.{re_linear, re_formula};
 ghost use Rattle.exo_conflicts.specs.Copies.{reading_by, flags_by, numbers_below, names_below};
-ghost use Rattle.exo_conflicts.specs.PlainCopies.{plain_turn, plain_copied, turn_fits, turn_is_low, renamed, TurnMade, TurnsMade, CoordsMade};
+ghost use Rattle.exo_conflicts.specs.PlainCopies.{plain_turn, plain_copied, turn_fits, turn_is_low};
+ghost use Rattle.exo_conflicts.specs.PlainCopies.{renamed, TurnMade, TurnsMade, CoordsMade};
 
 use crate::twin::{Turn, Twin};
 use affine_forms::{
@@ -219,7 +220,8 @@ pub(crate) fn copied_coords(
     coords: &[Coord],
 ) -> Result<Vec<AccessCoord>, FormError>
     requires { IsTrue (list_all coord_is_low (map coordinate coords.now)) }
-    ensures { CoordsMade result (list_all coord_fits (map coordinate coords.now)) (map (re_coord (renamed twin.now)) (map coord_form (map coordinate coords.now))) }
+    ensures { CoordsMade result (list_all coord_fits (map coordinate coords.now))
+        (map (re_coord (renamed twin.now)) (map coord_form (map coordinate coords.now))) }
 {
     let mut made = Vec::new(alloc);
     for c in coords {

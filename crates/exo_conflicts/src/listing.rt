@@ -83,7 +83,9 @@ fn owed_for<C: Contexts>(
     requires order { IsTrue (order_is_low order.now) }
     requires first { IsTrue (access_is_low x.now) }
     requires second { IsTrue (access_is_low y.now) }
-    ensures { AnswersPair (C.fits contexts.now) (C.known contexts.now) (plain_order order.now) place.now result (access_of (plain_use x.now), access_of (plain_use y.now)) }
+    ensures { AnswersPair (C.fits contexts.now) (C.known contexts.now)
+        (plain_order order.now) place.now result
+        (access_of (plain_use x.now), access_of (plain_use y.now)) }
 {
     let context = met(alloc, contexts, order, x, y)?;
     systems_where(alloc, &context, place, x, y)
@@ -102,7 +104,9 @@ fn owe_pair<C: Contexts>(
     requires order { IsTrue (order_is_low order.now) }
     requires first { IsTrue (access_is_low x.now) }
     requires second { IsTrue (access_is_low y.now) }
-    ensures { Owes (C.fits contexts.now) (C.known contexts.now) (plain_order order.now) place.now result ((access_of (plain_use x.now), access_of (plain_use y.now)) ∷ []) out.old out.new }
+    ensures { Owes (C.fits contexts.now) (C.known contexts.now)
+        (plain_order order.now) place.now result
+        ((access_of (plain_use x.now), access_of (plain_use y.now)) ∷ []) out.old out.new }
 {
     let more = owed_for(alloc, contexts, order, place, x, y)?;
     out.push_all(more)
@@ -121,7 +125,10 @@ fn owe_clash<C: Contexts>(
     requires order { IsTrue (order_is_low order.now) }
     requires first { IsTrue (access_is_low x.now) }
     requires second { IsTrue (access_is_low y.now) }
-    ensures { Owes (C.fits contexts.now) (C.known contexts.now) (plain_order order.now) place.now result (clashing_with (access_of (plain_use x.now)) (access_of (plain_use y.now) ∷ [])) out.old out.new }
+    ensures { Owes (C.fits contexts.now) (C.known contexts.now)
+        (plain_order order.now) place.now result
+        (clashing_with (access_of (plain_use x.now))
+        (access_of (plain_use y.now) ∷ [])) out.old out.new }
 {
     if x.root.0 == y.root.0 && modes_clash(x.mode, y.mode) {
         owe_pair(alloc, contexts, order, place, x, y, out)
@@ -143,7 +150,10 @@ fn owe_against<C: Contexts>(
     requires order { IsTrue (order_is_low order.now) }
     requires first { IsTrue (access_is_low x.now) }
     requires second { IsTrue (list_all access_is_low others.now) }
-    ensures { Owes (C.fits contexts.now) (C.known contexts.now) (plain_order order.now) place.now result (clashing_with (access_of (plain_use x.now)) (map access_of (plain_uses others.now))) out.old out.new }
+    ensures { Owes (C.fits contexts.now) (C.known contexts.now)
+        (plain_order order.now) place.now result
+        (clashing_with (access_of (plain_use x.now))
+        (map access_of (plain_uses others.now))) out.old out.new }
 {
     for y in others {
         owe_clash(alloc, contexts, order, place, x, y, out)?;
@@ -164,7 +174,10 @@ fn owe_all<C: Contexts>(
     requires order { IsTrue (order_is_low order.now) }
     requires first { IsTrue (list_all access_is_low first.now) }
     requires second { IsTrue (list_all access_is_low second.now) }
-    ensures { Owes (C.fits contexts.now) (C.known contexts.now) (plain_order order.now) place.now result (clashing (map access_of (plain_uses first.now)) (map access_of (plain_uses second.now))) out.old out.new }
+    ensures { Owes (C.fits contexts.now) (C.known contexts.now)
+        (plain_order order.now) place.now result
+        (clashing (map access_of (plain_uses first.now))
+        (map access_of (plain_uses second.now))) out.old out.new }
 {
     for x in first {
         owe_against(alloc, contexts, order, place, x, second, out)?;
@@ -184,7 +197,10 @@ fn owed_together<C: Contexts>(
     requires order { IsTrue (order_is_low order.now) }
     requires first { IsTrue (list_all access_is_low first.now) }
     requires second { IsTrue (list_all access_is_low second.now) }
-    ensures { IsListed result (owed_behind (C.fits contexts.now) (C.known contexts.now) (plain_order order.now) place.now (2 ^ 31) [] (clashing (map access_of (plain_uses first.now)) (map access_of (plain_uses second.now)))) }
+    ensures { IsListed result
+        (owed_behind (C.fits contexts.now) (C.known contexts.now) (plain_order order.now) place.now
+        (2 ^ 31) []
+        (clashing (map access_of (plain_uses first.now)) (map access_of (plain_uses second.now)))) }
 {
     let mut out = OwedList::new(alloc);
     owe_all(alloc, contexts, order, place, first, second, &mut out)?;
@@ -211,7 +227,9 @@ pub fn conflicts<C: Contexts>(
     requires first { IsTrue (list_all access_is_low first.now) }
     requires second { IsTrue (list_all access_is_low second.now) }
     requires context { past_all past_formula (C.known contexts.now) ≤ 2 ^ 31 }
-    ensures { IsListed result (conflicts_of (C.fits contexts.now) (C.known contexts.now) (plain_order order.now) place.now (map access_of (plain_uses first.now)) (map access_of (plain_uses second.now))) }
+    ensures { IsListed result
+        (conflicts_of (C.fits contexts.now) (C.known contexts.now) (plain_order order.now) place.now
+        (map access_of (plain_uses first.now)) (map access_of (plain_uses second.now))) }
 {
     owed_together(alloc, contexts, order, place, first, second)
 }

@@ -58,7 +58,12 @@ fn put_less(
     greater: Option<&CopiedTurn>,
     into: &mut Context,
 ) -> Result<(), AllocError>
-    ensures { OnOk result (into.new ≡ into.old ++ where_both (option_map plain_copied (option_copied lesser.entry)) (option_map plain_copied (option_copied greater.entry)) (λ x y. plain.less (variable x) (variable y))) }
+    ensures { OnOk result
+        (into.new
+        ≡ into.old
+        ++ where_both (option_map plain_copied (option_copied lesser.entry))
+        (option_map plain_copied (option_copied greater.entry))
+        (λ x y. plain.less (variable x) (variable y))) }
 {
     let (Some(s), Some(t)) = (lesser, greater) else {
         return Ok(());
@@ -93,7 +98,11 @@ pub(crate) fn put_rows(
     rows: &[OrderRow],
     into: &mut Context,
 ) -> Result<(), AllocError>
-    ensures { OnOk result (into.new ≡ into.old ++ flat_map (order_row (map plain_copied first.now) (map plain_copied second.now)) (map plain_row rows.now)) }
+    ensures { OnOk result
+        (into.new
+        ≡ into.old
+        ++ flat_map (order_row (map plain_copied first.now) (map plain_copied second.now))
+        (map plain_row rows.now)) }
 {
     for row in rows {
         put_row(alloc, first, second, *row, into)?;

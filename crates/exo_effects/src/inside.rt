@@ -61,7 +61,11 @@ impl<'a> Inside<'a> {
         mode: Mode,
         text: String,
     ) -> Result<(), AllocError>
-        ensures { OnOk result (plain_uses out.new.items ≡ plain_uses out.old.items ++ use_of (inside_of self.now) (string_bytes text) (plain_part part) (plain_mode mode) ∷ []) }
+        ensures { OnOk result
+            (plain_uses out.new.items
+            ≡ plain_uses out.old.items
+            ++ use_of (inside_of self.now) (string_bytes text) (plain_part part) (plain_mode mode)
+            ∷ []) }
     {
         let guards = copied(alloc, &self.guards)?;
         let Part { root, coords } = part;
@@ -85,7 +89,10 @@ impl<'a> Inside<'a> {
         part: &Part,
         text: &str,
     ) -> Result<(), AllocError>
-        ensures { OnOk result (plain_uses out.new.items ≡ plain_uses out.old.items ++ use_if has (inside_of self.now) text.now (plain_part part.now) (plain_mode mode)) }
+        ensures { OnOk result
+            (plain_uses out.new.items
+            ≡ plain_uses out.old.items
+            ++ use_if has (inside_of self.now) text.now (plain_part part.now) (plain_mode mode)) }
     {
         if !has {
             return Ok(());

@@ -38,7 +38,11 @@ fn whole_argument<'a>(
     parts: Parts,
     a: &Arg,
 ) -> Result<Vec<Access<'a>>, AllocError>
-    ensures { IfOk result (λ l. plain_uses l.items ≡ uses_of (record { parts = parts_in parts; own = []; round = [] }) (argument_text (words_in words.now) (argument a.now)) (part_of_argument (parts_in parts) (argument a.now)) (Writing ∷ [])) }
+    ensures { IfOk result
+        (λ l. plain_uses l.items
+        ≡ uses_of (record { parts = parts_in parts; own = []; round = [] })
+        (argument_text (words_in words.now) (argument a.now))
+        (part_of_argument (parts_in parts) (argument a.now)) (Writing ∷ [])) }
 {
     let mut out = Vec::new(alloc);
     let Some(part) = parts.argument(alloc, a)? else {

@@ -48,7 +48,9 @@ fn arrive<'a>(
     step: Step,
     count: usize,
 ) -> Result<Option<Spot<'a>>, AllocError>
-    ensures { IfOk result (λ found. LeadsTo count (opened_in count (step_taken step ∷ []) (block b.now)) found (parts_in parts.old) (parts_in parts.new)) }
+    ensures { IfOk result
+        (λ found. LeadsTo count (opened_in count (step_taken step ∷ []) (block b.now)) found
+        (parts_in parts.old) (parts_in parts.new)) }
 {
     let from = step.index as usize;
     if from > b.len() || count > b.len() - from {
@@ -68,7 +70,10 @@ fn descend<'a>(
     rest: &[Step],
     count: usize,
 ) -> Result<Option<Spot<'a>>, AllocError>
-    ensures { IfOk result (λ found. LeadsTo count (opened_in count (step_taken step ∷ map step_taken rest.now) (block b.now)) found (parts_in parts.old) (parts_in parts.new)) }
+    ensures { IfOk result
+        (λ found. LeadsTo count
+        (opened_in count (step_taken step ∷ map step_taken rest.now) (block b.now)) found
+        (parts_in parts.old) (parts_in parts.new)) }
 {
     let Some((next, more)) = rest.split_first() else {
         return arrive(alloc, parts, b, step, count);
@@ -92,7 +97,9 @@ pub(crate) fn find<'a>(
     path: &Path,
     count: usize,
 ) -> Result<Option<Spot<'a>>, AllocError>
-    ensures { IfOk result (λ found. LeadsTo count (opened count path.now (block body.now)) found (parts_in parts.old) (parts_in parts.new)) }
+    ensures { IfOk result
+        (λ found. LeadsTo count (opened count path.now (block body.now)) found (parts_in parts.old)
+        (parts_in parts.new)) }
 {
     let Some((step, rest)) = path.as_slice().split_first() else {
         return Ok(None);
@@ -112,7 +119,10 @@ fn accesses_at<'a>(
     count: usize,
 ) -> Result<Vec<Access<'a>>, AllocError>
     requires within { spot.from + count ≤ length spot.block.now }
-    ensures { IfOk result (λ l. plain_uses l.items ≡ block_uses site.now (record { parts = parts_in parts; own = []; round = [] }) (block (slice_range spot.entry.block.now spot.entry.from (spot.entry.from + count)))) }
+    ensures { IfOk result
+        (λ l. plain_uses l.items
+        ≡ block_uses site.now (record { parts = parts_in parts; own = []; round = [] })
+        (block (slice_range spot.entry.block.now spot.entry.from (spot.entry.from + count)))) }
 {
     let mut out = Vec::new(alloc);
     let mut inside = Inside {

@@ -9,7 +9,8 @@ ghost use Rattle.exo_effects.specs.Uses.{uses_of, modes_had, part_of_argument};
 ghost use Rattle.exo_effects.specs.PlainAccess.{plain_mode};
 ghost use Rattle.exo_effects.specs.PlainParts.{plain_part, parts_in};
 ghost use Rattle.exo_effects.specs.PlainUses.{plain_uses};
-ghost use Rattle.exo_effects.specs.PlainWalk.{inside_of, words_by, modes_by, cell_uses, data_uses, argument_uses, arguments_uses, step_uses};
+ghost use Rattle.exo_effects.specs.PlainWalk.{inside_of, words_by, modes_by, cell_uses, data_uses};
+ghost use Rattle.exo_effects.specs.PlainWalk.{argument_uses, arguments_uses, step_uses};
 ghost use Rattle.std.specs.Prelude.{Some};
 ghost use Rattle.exo_tree.specs.Tree as tree;
 
@@ -32,7 +33,10 @@ pub(crate) fn put_cell<'a>(
     x: Id,
     at: &Indices,
 ) -> Result<(), AllocError>
-    ensures { OnOk result (plain_uses out.new.items ≡ plain_uses out.old.items ++ cell_uses site.now (inside_of inside.now) (plain_mode mode) x.0 at.now) }
+    ensures { OnOk result
+        (plain_uses out.new.items
+        ≡ plain_uses out.old.items
+        ++ cell_uses site.now (inside_of inside.now) (plain_mode mode) x.0 at.now) }
 {
     let Some(part) = inside.parts.get(x) else {
         return Ok(());
@@ -82,7 +86,11 @@ fn put_modes<'a>(
     part: &Part,
     text: &str,
 ) -> Result<(), AllocError>
-    ensures { OnOk result (plain_uses out.new.items ≡ plain_uses out.old.items ++ uses_of (inside_of inside.now) text.now (Some (plain_part part.now)) (modes_had (says has))) }
+    ensures { OnOk result
+        (plain_uses out.new.items
+        ≡ plain_uses out.old.items
+        ++ uses_of (inside_of inside.now) text.now (Some (plain_part part.now))
+        (modes_had (says has))) }
 {
     inside.put_mode(alloc, out, has.read, Mode::Read, part, text)?;
     inside.put_mode(alloc, out, has.write, Mode::Write, part, text)?;
@@ -98,7 +106,11 @@ fn put_passed<'a>(
     has: Modes,
     a: &Arg,
 ) -> Result<(), AllocError>
-    ensures { OnOk result (plain_uses out.new.items ≡ plain_uses out.old.items ++ uses_of (inside_of inside.now) (argument_text (words_by site.now) (argument a.now)) (part_of_argument (parts_in inside.now.parts) (argument a.now)) (modes_had (says has))) }
+    ensures { OnOk result
+        (plain_uses out.new.items
+        ≡ plain_uses out.old.items
+        ++ uses_of (inside_of inside.now) (argument_text (words_by site.now) (argument a.now))
+        (part_of_argument (parts_in inside.now.parts) (argument a.now)) (modes_had (says has))) }
 {
     let Some(part) = inside.parts.argument(alloc, a)? else {
         return Ok(());
@@ -118,7 +130,11 @@ fn put_arguments<'a>(
     params: &[Param],
     args: &[Arg],
 ) -> Result<(), AllocError>
-    ensures { OnOk result (plain_uses out.new.items ≡ plain_uses out.old.items ++ arguments_uses site.now (inside_of inside.now) (modes_by site.now callee.0) (map parameter params.now) (map argument args.now)) }
+    ensures { OnOk result
+        (plain_uses out.new.items
+        ≡ plain_uses out.old.items
+        ++ arguments_uses site.now (inside_of inside.now) (modes_by site.now callee.0)
+        (map parameter params.now) (map argument args.now)) }
 {
     for k in 0..params.len().min(args.len()) {
         let has = site.modes.get(callee, params[k].binder.id);
@@ -136,7 +152,10 @@ pub(crate) fn put_call<'a>(
     callee: ProcId,
     args: &Args,
 ) -> Result<(), AllocError>
-    ensures { OnOk result (plain_uses out.new.items ≡ plain_uses out.old.items ++ step_uses site.now (inside_of inside.now) (tree.Call callee.0 args.now)) }
+    ensures { OnOk result
+        (plain_uses out.new.items
+        ≡ plain_uses out.old.items
+        ++ step_uses site.now (inside_of inside.now) (tree.Call callee.0 args.now)) }
 {
     let Some(p) = site.unit.procs.get(callee.0 as usize) else {
         return Ok(());

@@ -26,7 +26,10 @@ pub(crate) fn walk_part<'a>(
 ) -> Result<(), AllocError>
     requires ordered { from ≤ to }
     requires within { to ≤ length b.now }
-    ensures uses { OnOk result (plain_uses out.new.items ≡ plain_uses out.old.items ++ block_uses site.now (inside_of inside.old) (block (slice_range b.now from to))) }
+    ensures uses { OnOk result
+        (plain_uses out.new.items
+        ≡ plain_uses out.old.items
+        ++ block_uses site.now (inside_of inside.old) (block (slice_range b.now from to))) }
     ensures kept { OnOk result (IsLeft inside.old inside.new) }
 {
     let known = inside.parts.len();
@@ -50,7 +53,10 @@ fn walk_under<'a>(
     says: bool,
     b: &'a Block,
 ) -> Result<(), AllocError>
-    ensures uses { OnOk result (plain_uses out.new.items ≡ plain_uses out.old.items ++ block_uses site.now (guarded says guard.entry (inside_of inside.old)) (block b.now)) }
+    ensures uses { OnOk result
+        (plain_uses out.new.items
+        ≡ plain_uses out.old.items
+        ++ block_uses site.now (guarded says guard.entry (inside_of inside.old)) (block b.now)) }
     ensures kept { OnOk result (IsLeft inside.old inside.new) }
 {
     let around = inside.guards.len();
@@ -69,7 +75,9 @@ fn walk_statement<'a>(
     inside: &mut Inside<'a>,
     s: &'a Stmt,
 ) -> Result<(), AllocError>
-    ensures uses { OnOk result (plain_uses out.new.items ≡ plain_uses out.old.items ++ step_uses site.now (inside_of inside.old) (statement s.now)) }
+    ensures uses { OnOk result
+        (plain_uses out.new.items
+        ≡ plain_uses out.old.items ++ step_uses site.now (inside_of inside.old) (statement s.now)) }
     ensures kept { OnOk result (IsLeft inside.old inside.new) }
 {
     match s {

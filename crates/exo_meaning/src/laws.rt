@@ -5,7 +5,9 @@ ghost use Rattle.exo_meaning.specs.Orders.{NestsReorder};
 ghost use Rattle.exo_meaning.specs.Renaming.{RunsRename};
 ghost use Rattle.exo_meaning.specs.Unseen.{RunsIgnoreUnmentioned};
 ghost use Rattle.exo_meaning.specs.Nests.{LoopsReorder};
-ghost use Rattle.exo_meaning.specs.Laws.{RunsAreMonotone, RunsCompose, StoresCommute, ReductionsCommute, OthersAreKept, DataIsApart, TurnsCommute, WindowsAreTested};
+ghost use Rattle.exo_meaning.specs.Laws.{RunsAreMonotone, RunsCompose, StoresCommute};
+ghost use Rattle.exo_meaning.specs.Laws.{ReductionsCommute, OthersAreKept, DataIsApart};
+ghost use Rattle.exo_meaning.specs.Laws.{TurnsCommute, WindowsAreTested};
 
 /// What cells of each type keep of numbers and of their sums.
 pub fn wraps_agree()

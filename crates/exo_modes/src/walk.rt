@@ -66,7 +66,11 @@ fn mark_argument(
     p: &Param,
     a: &Arg,
 ) -> Result<(), AllocError>
-    ensures { OnOk result (row_says row.new ≡ together (row_says row.old) (λ m y. row_says callee.now m p.now.binder.id.0 && is_root (roots_in aliases.now) y (argument a.now))) }
+    ensures { OnOk result
+        (row_says row.new
+        ≡ together (row_says row.old)
+        (λ m y. row_says callee.now m p.now.binder.id.0
+        && is_root (roots_in aliases.now) y (argument a.now))) }
 {
     match a {
         Arg::Whole(x) => row.insert(root(aliases, x.0), callee.get(p.binder.id.0)),
@@ -83,7 +87,11 @@ fn mark_arguments(
     params: &[Param],
     args: &[Arg],
 ) -> Result<(), AllocError>
-    ensures { OnOk result (row_says row.new ≡ together (row_says row.old) (argument_marks (row_says callee.now) (roots_in aliases.now) (map parameter params.now) (map argument args.now))) }
+    ensures { OnOk result
+        (row_says row.new
+        ≡ together (row_says row.old)
+        (argument_marks (row_says callee.now) (roots_in aliases.now) (map parameter params.now)
+        (map argument args.now))) }
 {
     for k in 0..params.len().min(args.len()) {
         mark_argument(row, aliases, callee, &params[k], &args[k])?;
@@ -99,7 +107,11 @@ fn mark_call(
     k: ProcId,
     args: &Args,
 ) -> Result<(), AllocError>
-    ensures { OnOk result (row_says row.new ≡ together (row_says row.old) (call_marks above.now.procs.now (rows_say above.now.rows.now) (roots_in aliases.now) k.0 args.now)) }
+    ensures { OnOk result
+        (row_says row.new
+        ≡ together (row_says row.old)
+        (call_marks above.now.procs.now (rows_say above.now.rows.now)
+        (roots_in aliases.now) k.0 args.now)) }
 {
     let index = k.0 as usize;
     if above.rows.len() <= index {
@@ -120,7 +132,11 @@ fn walk_statement(
     aliases: &mut Vec<Alias>,
     s: &Stmt,
 ) -> Result<(), AllocError>
-    ensures marks { OnOk result (row_says row.new ≡ together (row_says row.old) (step_marks above.now.procs.now (rows_say above.now.rows.now) (roots_in aliases.old.items) (statement s.now))) }
+    ensures marks { OnOk result
+        (row_says row.new
+        ≡ together (row_says row.old)
+        (step_marks above.now.procs.now (rows_say above.now.rows.now) (roots_in aliases.old.items)
+        (statement s.now))) }
     ensures roots { OnOk result (roots_in aliases.new.items ≡ roots_after (statement s.now) (roots_in aliases.old.items)) }
     ensures kept { OnOk result (take (length aliases.old.items) aliases.new.items ≡ aliases.old.items) }
 {
@@ -163,7 +179,11 @@ fn walk_block(
     aliases: &mut Vec<Alias>,
     b: &Block,
 ) -> Result<(), AllocError>
-    ensures marks { OnOk result (row_says row.new ≡ together (row_says row.old) (block_marks above.now.procs.now (rows_say above.now.rows.now) (roots_in aliases.old.items) (block b.now))) }
+    ensures marks { OnOk result
+        (row_says row.new
+        ≡ together (row_says row.old)
+        (block_marks above.now.procs.now (rows_say above.now.rows.now) (roots_in aliases.old.items)
+        (block b.now))) }
     ensures kept { OnOk result (aliases.new.items ≡ aliases.old.items) }
 {
     let known = aliases.len();
@@ -177,7 +197,10 @@ fn walk_block(
 /// What the body of a procedure touches that calls those above.
 pub fn row_of(alloc: Global, above: &Above, body: &Block) -> Result<Row, AllocError>
     ensures says { IfOk result (λ r. row_says r ≡ block_marks above.now.procs.now (rows_say above.now.rows.now) (λ y. y) (block body.now)) }
-    ensures writes { IfOk result (λ r. row_writes r ≡ block_writes above.now.procs.now (rows_write above.now.rows.now) (λ y. y) (block body.now)) }
+    ensures writes { IfOk result
+        (λ r. row_writes r
+        ≡ block_writes above.now.procs.now (rows_write above.now.rows.now) (λ y. y)
+        (block body.now)) }
 {
     let mut row = Row::new(alloc);
     let mut aliases = Vec::new(alloc);

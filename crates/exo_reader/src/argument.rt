@@ -43,7 +43,9 @@ pub struct NotedCoords {
 
 /// A coordinate of a window.
 fn read_coordinate(alloc: Global, tokens: &[Token]) -> Result<(NotedCoord, &[Token]), Refusal>
-    ensures noted { IfOk result (λ x. (x.0.depth ≡ low_depth (plain_coordinate x.0.coord)) × (x.0.spans ≡ is_span (plain_coordinate x.0.coord))) }
+    ensures noted { IfOk result
+        (λ x. (x.0.depth ≡ low_depth (plain_coordinate x.0.coord))
+        × (x.0.spans ≡ is_span (plain_coordinate x.0.coord))) }
     ensures reads { Reads coordinate tokens.now (λ x. plain_coordinate x.0.coord) (λ x. x.1.now) result }
 {
     let room = Room {
@@ -133,7 +135,9 @@ fn cell_at(alloc: Global, name: Text, coords: NotedCoords) -> Result<Measured, A
 
 /// The tokens behind a bracket that stands first, if the name before it is short.
 fn behind_bracket<'a>(name: &Text, rest: &'a [Token]) -> Option<&'a [Token]>
-    ensures { MatchOption result (IsShortName name.now → first rest.now ≡ Some (Token.Sign Sign.OpenBracket) → ⊥) (λ inside. (rest.now ≡ Token.Sign Sign.OpenBracket ∷ inside.now) × IsShortName name.now) }
+    ensures { MatchOption result
+        (IsShortName name.now → first rest.now ≡ Some (Token.Sign Sign.OpenBracket) → ⊥)
+        (λ inside. (rest.now ≡ Token.Sign Sign.OpenBracket ∷ inside.now) × IsShortName name.now) }
 {
     if is_short(name) {
         return behind(rest, Fixed::Sign(Sign::OpenBracket));
@@ -143,7 +147,9 @@ fn behind_bracket<'a>(name: &Text, rest: &'a [Token]) -> Option<&'a [Token]>
 
 /// The short name that stands first, and the tokens behind the bracket behind it.
 fn bracketed(tokens: &[Token]) -> Option<(&Text, &[Token])>
-    ensures { MatchOption result (NoBracket tokens.now) (λ x. (tokens.now ≡ Token.Name x.0.now ∷ Token.Sign Sign.OpenBracket ∷ x.1.now) × IsShortName x.0.now) }
+    ensures { MatchOption result (NoBracket tokens.now)
+        (λ x. (tokens.now ≡ Token.Name x.0.now ∷ Token.Sign Sign.OpenBracket ∷ x.1.now)
+        × IsShortName x.0.now) }
 {
     let (token, rest) = next(tokens)?;
     match token {
@@ -166,7 +172,9 @@ fn read_bracketed(
     requires short { IsShortName name }
     requires place { HasPlace room }
     requires depth { room.depth ≡ 64 }
-    ensures { Reads (argument_of (operand 0 room)) (Token.Name name ∷ Token.Sign Sign.OpenBracket ∷ inside.now) (λ x. plain_argument x.0) (λ x. x.1.now) result }
+    ensures { Reads (argument_of (operand 0 room))
+        (Token.Name name ∷ Token.Sign Sign.OpenBracket ∷ inside.now) (λ x. plain_argument x.0)
+        (λ x. x.1.now) result }
 {
     let (coords, behind_coords) = read_coordinates(alloc, inside)?;
     let after = expect(behind_coords, Fixed::Sign(Sign::CloseBracket))?;

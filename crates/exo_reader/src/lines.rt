@@ -16,7 +16,8 @@ pub const STRING_BYTES: usize = 1024;
 
 /// The string that stands first, if one does.
 pub fn string_at(tokens: &[Token]) -> Option<(&Text, &[Token])>
-    ensures { MatchOption result ((x : List ℕ) → first tokens.now ≡ Some (Token.Str x) → ⊥) (λ x. tokens.now ≡ Token.Str x.0.now ∷ x.1.now) }
+    ensures { MatchOption result ((x : List ℕ) → first tokens.now ≡ Some (Token.Str x) → ⊥)
+        (λ x. tokens.now ≡ Token.Str x.0.now ∷ x.1.now) }
 {
     let (token, rest) = next(tokens)?;
     match token {

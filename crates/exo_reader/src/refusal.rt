@@ -1,7 +1,8 @@
 //! Where and why a text is refused.
 
 ghost use Rattle.std.specs.Prelude.{◌≡◌, ◌+◌, ◌<◌, length, IsTrue, ◌↔◌, None};
-ghost use Rattle.exo_reader.specs.Texts.{EndsHeader, IsAtEnd, bad_token, first_kind, IsKindBy, IsSyntaxKind, column_at, IsPlaced, IsLeft, Says};
+ghost use Rattle.exo_reader.specs.Texts.{EndsHeader, IsAtEnd, bad_token, first_kind, IsKindBy};
+ghost use Rattle.exo_reader.specs.Texts.{IsSyntaxKind, column_at, IsPlaced, IsLeft, Says};
 
 use crate::unit::{ReadError, ReadKind};
 use text_expressions::front::{Fixed, behind, stands_first};

@@ -27,7 +27,9 @@ pub const NESTING: u32 = 24;
 
 /// What comes behind `pass`.
 fn read_pass(after: &[Token]) -> Result<(SourceStmt, &[Token]), Refusal>
-    ensures { (nesting : ℕ) → Reads (statement nesting) (Token.Word Word.Pass ∷ after.now) (λ x. plain_statement x.0) (λ x. x.1.now) result }
+    ensures { (nesting : ℕ)
+        → Reads (statement nesting) (Token.Word Word.Pass ∷ after.now) (λ x. plain_statement x.0)
+        (λ x. x.1.now) result }
 {
     let rest = expect_all(after, &[Fixed::NewLine])?;
     Ok((SourceStmt::Pass, rest))
@@ -40,7 +42,9 @@ fn read_allocation(
     after: &[Token],
 ) -> Result<(SourceStmt, &[Token]), Refusal>
     requires { IsShortName name }
-    ensures { (nesting : ℕ) → Reads (statement nesting) (Token.Name name ∷ Token.Sign Sign.Colon ∷ after.now) (λ x. plain_statement x.0) (λ x. x.1.now) result }
+    ensures { (nesting : ℕ)
+        → Reads (statement nesting) (Token.Name name ∷ Token.Sign Sign.Colon ∷ after.now)
+        (λ x. plain_statement x.0) (λ x. x.1.now) result }
 {
     let (kind, behind_kind) = read_kind(after)?;
     let (list, behind_dims) = read_optional_dims(alloc, behind_kind)?;
@@ -52,7 +56,9 @@ fn read_allocation(
 /// What comes behind the name and the parenthesis of a call.
 fn read_call(alloc: Global, name: Text, after: &[Token]) -> Result<(SourceStmt, &[Token]), Refusal>
     requires { IsShortName name }
-    ensures { (nesting : ℕ) → Reads (statement nesting) (Token.Name name ∷ Token.Sign Sign.Open ∷ after.now) (λ x. plain_statement x.0) (λ x. x.1.now) result }
+    ensures { (nesting : ℕ)
+        → Reads (statement nesting) (Token.Name name ∷ Token.Sign Sign.Open ∷ after.now)
+        (λ x. plain_statement x.0) (λ x. x.1.now) result }
 {
     let (list, behind_list) = read_arguments(alloc, after)?;
     let rest = expect_all(behind_list, &[Fixed::Sign(Sign::Close), Fixed::NewLine])?;
@@ -66,7 +72,9 @@ fn read_config(
     after: &[Token],
 ) -> Result<(SourceStmt, &[Token]), Refusal>
     requires { IsShortName name }
-    ensures { (nesting : ℕ) → Reads (statement nesting) (Token.Name name ∷ Token.Sign Sign.Dot ∷ after.now) (λ x. plain_statement x.0) (λ x. x.1.now) result }
+    ensures { (nesting : ℕ)
+        → Reads (statement nesting) (Token.Name name ∷ Token.Sign Sign.Dot ∷ after.now)
+        (λ x. plain_statement x.0) (λ x. x.1.now) result }
 {
     let (field, behind_field) = read_name_and(after, &[Fixed::Sign(Sign::Assign)])?;
     let (value, rest) = read_control_and(alloc, behind_field, &[Fixed::NewLine])?;
@@ -136,7 +144,9 @@ fn read_equation(
     after: &[Token],
 ) -> Result<(SourceStmt, &[Token]), Refusal>
     requires { IsShortName name }
-    ensures { (nesting : ℕ) → Reads (statement nesting) (Token.Name name ∷ Token.Sign Sign.Assign ∷ after.now) (λ x. plain_statement x.0) (λ x. x.1.now) result }
+    ensures { (nesting : ℕ)
+        → Reads (statement nesting) (Token.Name name ∷ Token.Sign Sign.Assign ∷ after.now)
+        (λ x. plain_statement x.0) (λ x. x.1.now) result }
 {
     let (right, behind_right) = read_right(alloc, after)?;
     let rest = expect_all(behind_right, &[Fixed::NewLine])?;

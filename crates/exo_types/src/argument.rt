@@ -117,7 +117,10 @@ fn may_be_strided(names: &Names, cell: Cell, e: &SourceExpr) -> bool
 
 /// The charge of a whole buffer of that rank.
 fn test_whole(names: &Names, fits: bool, n: usize, x: &Text, rank: usize) -> Charge
-    ensures { (test : Option units.Sort → Bool) → test (sort_of (named_in names.now.scope.now x.now)) ≡ fits → result ≡ charged (rules.whole_faults names.now.fields.now test names.now.scope.now n x.now rank) }
+    ensures { (test : Option units.Sort → Bool)
+        → test (sort_of (named_in names.now.scope.now x.now)) ≡ fits
+        → result
+        ≡ charged (rules.whole_faults names.now.fields.now test names.now.scope.now n x.now rank) }
 {
     let sort = names.scope.sort(x.as_str());
     name_charge(sort, fits, n).and(rank_charge(sort, rank, n))
@@ -133,7 +136,12 @@ fn test_cell(
     whole: Charge,
 ) -> Charge
     requires { n + 2 + closed_width (map tree_of indices.now) ≤ most_tokens }
-    ensures { (test : Option units.Sort → Bool) (more : List Fault) → test (sort_of (named_in names.now.scope.now x.now)) ≡ fits → whole ≡ charged more → result ≡ charged (rules.part_faults names.now.fields.now test names.now.scope.now n x.now (map tree_of indices.now) more) }
+    ensures { (test : Option units.Sort → Bool) (more : List Fault)
+        → test (sort_of (named_in names.now.scope.now x.now)) ≡ fits
+        → whole ≡ charged more
+        → result
+        ≡ charged (rules.part_faults names.now.fields.now test names.now.scope.now n x.now
+        (map tree_of indices.now) more) }
 {
     let sort = names.scope.sort(x.as_str());
     let name = name_charge(sort, fits, n);
@@ -174,7 +182,9 @@ fn test_strided(
     e: &SourceExpr,
 ) -> Charge
     requires { n + width (tree_of e.now) ≤ most_tokens }
-    ensures { result ≡ charged (rules.strided_faults names.now.fields.now names.now.scope.now (cell_type cell) rank first n (tree_of e.now)) }
+    ensures { result
+        ≡ charged (rules.strided_faults names.now.fields.now names.now.scope.now
+        (cell_type cell) rank first n (tree_of e.now)) }
 {
     match e {
         SourceExpr::Name(x) => {
@@ -196,7 +206,9 @@ fn test_strided(
 /// The test of a control value of a kind: a condition for a `bool`, else a number.
 pub fn test_kind(names: &Names, may: Reads, kind: Kind, n: usize, e: &SourceExpr) -> Tested
     requires { n + width (tree_of e.now) ≤ most_tokens }
-    ensures charge { result.charge ≡ charged (rules.kind_faults names.now.fields.now (reads may) names.now.scope.now (control_kind kind) n (tree_of e.now)) }
+    ensures charge { result.charge
+        ≡ charged (rules.kind_faults names.now.fields.now (reads may) names.now.scope.now
+        (control_kind kind) n (tree_of e.now)) }
     ensures end { result.end ≡ n + width (tree_of e.now) }
 {
     match kind {
@@ -226,7 +238,9 @@ fn test_view(
     coords: &[SourceCoord],
 ) -> (Charge, usize)
     requires { n + 2 + coordinates_width (map plain_coordinate coords.now) ≤ most_tokens }
-    ensures charge { result.0 ≡ charged (rules.view_faults names.now.fields.now names.now.scope.now (parameter_kind kind.now) n x.now (map plain_coordinate coords.now)) }
+    ensures charge { result.0
+        ≡ charged (rules.view_faults names.now.fields.now names.now.scope.now
+        (parameter_kind kind.now) n x.now (map plain_coordinate coords.now)) }
     ensures end { result.1 ≡ n + 2 + coordinates_width (map plain_coordinate coords.now) }
 {
     let sort = names.scope.sort(x.as_str());
@@ -263,7 +277,9 @@ pub fn test_argument(
     given: &SourceArg,
 ) -> (Charge, usize)
     requires { n + rules.argument_width (plain_argument given.now) ≤ most_tokens }
-    ensures charge { result.0 ≡ charged (rules.argument_faults names.now.fields.now names.now.scope.now (parameter_kind kind.now) n (plain_argument given.now)) }
+    ensures charge { result.0
+        ≡ charged (rules.argument_faults names.now.fields.now names.now.scope.now
+        (parameter_kind kind.now) n (plain_argument given.now)) }
     ensures end { result.1 ≡ n + rules.argument_width (plain_argument given.now) }
 {
     match given {
@@ -274,7 +290,9 @@ pub fn test_argument(
 
 /// The buffer that an expression for a buffer is a part of.
 fn part_root(names: &Names, aliases: &[Alias], e: &SourceExpr) -> u32
-    ensures { Some result ≡ units.root_of (units.field_kind names.now.fields.now) (roots_in aliases.now) (rules.part_of names.now.fields.now names.now.scope.now (tree_of e.now)) }
+    ensures { Some result
+        ≡ units.root_of (units.field_kind names.now.fields.now) (roots_in aliases.now)
+        (rules.part_of names.now.fields.now names.now.scope.now (tree_of e.now)) }
 {
     match e {
         SourceExpr::Name(x) => root(aliases, id_in(names, x.as_str()).0),
@@ -286,7 +304,10 @@ fn part_root(names: &Names, aliases: &[Alias], e: &SourceExpr) -> u32
 
 /// The buffer that an argument is a part of; None for a control value.
 pub fn root_of(names: &Names, aliases: &[Alias], kind: &ParamKind, given: &SourceArg) -> Option<u32>
-    ensures { result ≡ units.root_of (units.field_kind names.now.fields.now) (roots_in aliases.now) (rules.argument_of names.now.fields.now names.now.scope.now (parameter_kind kind.now) (plain_argument given.now)) }
+    ensures { result
+        ≡ units.root_of (units.field_kind names.now.fields.now) (roots_in aliases.now)
+        (rules.argument_of names.now.fields.now names.now.scope.now (parameter_kind kind.now)
+        (plain_argument given.now)) }
 {
     match given {
         SourceArg::Value(e) => match kind {
@@ -324,7 +345,10 @@ fn part_of(alloc: Global, names: &Names, e: &SourceExpr) -> Result<Arg, AllocErr
 
 /// A control value of a kind as a tree.
 pub fn kind_of(alloc: Global, names: &Names, kind: Kind, e: &SourceExpr) -> Result<Arg, AllocError>
-    ensures { IfOk result (λ a. argument a ≡ rules.kind_value_of names.now.fields.now names.now.scope.now (control_kind kind) (tree_of e.now)) }
+    ensures { IfOk result
+        (λ a. argument a
+        ≡ rules.kind_value_of names.now.fields.now names.now.scope.now (control_kind kind)
+        (tree_of e.now)) }
 {
     match kind {
         Kind::Bool => Ok(Arg::Cond(condition_of(alloc, names, e)?)),
@@ -339,7 +363,10 @@ pub fn argument_of(
     kind: &ParamKind,
     given: &SourceArg,
 ) -> Result<Arg, AllocError>
-    ensures { IfOk result (λ a. argument a ≡ rules.argument_of names.now.fields.now names.now.scope.now (parameter_kind kind.now) (plain_argument given.now)) }
+    ensures { IfOk result
+        (λ a. argument a
+        ≡ rules.argument_of names.now.fields.now names.now.scope.now (parameter_kind kind.now)
+        (plain_argument given.now)) }
 {
     match given {
         SourceArg::Value(e) => match kind {

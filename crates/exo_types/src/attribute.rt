@@ -7,7 +7,12 @@ ghost use Rattle.exo_reader.specs.Items.{joined};
 ghost use Rattle.rules_names.specs.Tests.{most_tokens};
 ghost use Rattle.exo_reader.specs.Views.{plain_setting, plain_attribute};
 ghost use Rattle.rules_names.specs.Faults.{charged};
-ghost use Rattle.exo_types.specs.MemoryRules.{plain_memory, trait_named, text_of, is_strings, is_truth_value, is_cell_word, is_place_word, is_lane_count, has_form, trait_faults, attribute_faults, attribute_width, attributes_width, attributes_fault, lanes_faults, count_of, truth_of, with_trait, with_attributes};
+ghost use Rattle.exo_types.specs.MemoryRules.{plain_memory, trait_named, text_of, is_strings};
+ghost use Rattle.exo_types.specs.MemoryRules.{is_truth_value, is_cell_word, is_place_word};
+ghost use Rattle.exo_types.specs.MemoryRules.{is_lane_count, has_form, trait_faults};
+ghost use Rattle.exo_types.specs.MemoryRules.{attribute_faults, attribute_width, attributes_width};
+ghost use Rattle.exo_types.specs.MemoryRules.{attributes_fault, lanes_faults, count_of, truth_of};
+ghost use Rattle.exo_types.specs.MemoryRules.{with_trait, with_attributes};
 
 use crate::types::{cell_of_text, is_same};
 use exo_reader::source::{SourceAttribute, SourceValue};

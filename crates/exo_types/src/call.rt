@@ -88,8 +88,14 @@ fn test_arguments(
     arguments: &[SourceArg],
 ) -> Result<(Charge, usize), AllocError>
     requires { n + rules.spaced_width (map plain_argument arguments.now) ≤ most_tokens }
-    ensures charge { IfOk result (λ r. r.0 ≡ charged (rules.arguments_faults names.now.fields.now (signature callee.entry).writes names.now.scope.now (roots_in aliases.now) [] (signature callee.entry).params n (map plain_argument arguments.now))) }
-    ensures end { IfOk result (λ r. length arguments.now ≡ length (signature callee.entry).params → r.1 ≡ n + rules.spaced_width (map plain_argument arguments.now)) }
+    ensures charge { IfOk result
+        (λ r. r.0
+        ≡ charged (rules.arguments_faults names.now.fields.now
+        (signature callee.entry).writes names.now.scope.now (roots_in aliases.now) []
+        (signature callee.entry).params n (map plain_argument arguments.now))) }
+    ensures end { IfOk result
+        (λ r. length arguments.now ≡ length (signature callee.entry).params
+        → r.1 ≡ n + rules.spaced_width (map plain_argument arguments.now)) }
 {
     let params = callee.params.as_slice();
     let mut passed = Vec::new(alloc);
@@ -124,8 +130,14 @@ pub fn test_call(
     arguments: &[SourceArg],
 ) -> Result<(Charge, usize), AllocError>
     requires { n + 2 + rules.arguments_width (map plain_argument arguments.now) ≤ most_tokens }
-    ensures charge { IfOk result (λ r. r.0 ≡ charged (rules.call_faults names.now.fields.now (Some (signature callee.entry)) names.now.scope.now (roots_in aliases.now) n (map plain_argument arguments.now))) }
-    ensures end { IfOk result (λ r. length arguments.now ≡ length (signature callee.entry).params → r.1 ≡ n + 2 + rules.arguments_width (map plain_argument arguments.now)) }
+    ensures charge { IfOk result
+        (λ r. r.0
+        ≡ charged (rules.call_faults names.now.fields.now
+        (Some (signature callee.entry)) names.now.scope.now (roots_in aliases.now) n
+        (map plain_argument arguments.now))) }
+    ensures end { IfOk result
+        (λ r. length arguments.now ≡ length (signature callee.entry).params
+        → r.1 ≡ n + 2 + rules.arguments_width (map plain_argument arguments.now)) }
 {
     let same = arguments.len() == callee.params.len();
     let count = Charge::unless(same, TypeKind::RankMismatch, n);
@@ -141,7 +153,10 @@ pub fn arguments_of(
     params: &[Param],
     arguments: &[SourceArg],
 ) -> Result<Args, AllocError>
-    ensures { IfOk result (λ l. l ≡ rules.arguments_of names.now.fields.now names.now.scope.now (map parameter params.now) (map plain_argument arguments.now)) }
+    ensures { IfOk result
+        (λ l. l
+        ≡ rules.arguments_of names.now.fields.now names.now.scope.now (map parameter params.now)
+        (map plain_argument arguments.now)) }
 {
     let mut made = Args::new(alloc);
     for k in 0..params.len().min(arguments.len()) {

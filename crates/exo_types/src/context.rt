@@ -105,7 +105,9 @@ impl<'c> Walk<'c> {
         ensures binder { IfOk result (λ b. binding b ≡ binder self.old.next_id name.now) }
         ensures scope { OnOk result (self.new.scope ≡ with_name self.old.scope (binder self.old.next_id name.now) (sort_meant sort)) }
         ensures next { OnOk result (self.new.next_id ≡ self.old.next_id + 1) }
-        ensures roots { OnOk result (roots_in self.new.aliases.items ≡ updated (roots_in self.old.aliases.items) self.old.next_id self.old.next_id) }
+        ensures roots { OnOk result
+            (roots_in self.new.aliases.items
+            ≡ updated (roots_in self.old.aliases.items) self.old.next_id self.old.next_id) }
         ensures kept { OnOk result (take (length self.old.aliases.items) self.new.aliases.items ≡ self.old.aliases.items) }
         ensures lines { OnOk result (self.new.lines ≡ self.old.lines) }
     {
@@ -126,7 +128,10 @@ impl<'c> Walk<'c> {
         ensures binder { IfOk result (λ b. binding b ≡ binder self.old.next_id name.now) }
         ensures scope { OnOk result (self.new.scope ≡ with_name self.old.scope (binder self.old.next_id name.now) (sort_meant sort)) }
         ensures next { OnOk result (self.new.next_id ≡ self.old.next_id + 1) }
-        ensures roots { OnOk result (roots_in self.new.aliases.items ≡ updated (roots_in self.old.aliases.items) self.old.next_id (roots_in self.old.aliases.items of.0)) }
+        ensures roots { OnOk result
+            (roots_in self.new.aliases.items
+            ≡ updated (roots_in self.old.aliases.items) self.old.next_id
+            (roots_in self.old.aliases.items of.0)) }
         ensures kept { OnOk result (take (length self.old.aliases.items) self.new.aliases.items ≡ self.old.aliases.items) }
         ensures lines { OnOk result (self.new.lines ≡ self.old.lines) }
     {

@@ -54,7 +54,10 @@ fn no_memory_charge(memories: &NameTable, n: usize, memory: &Option<Text>) -> Ch
 /// The charge of a type without dimensions, which is token `n`, and of the memory behind it.
 fn test_scalar(memories: &NameTable, n: usize, kind: &SourceKind, memory: &Option<Text>) -> Charge
     requires { n + 1 < most_tokens }
-    ensures { (fields : List ConfigField) → result ≡ charged (rules.scalar_faults fields memories.now (kind_named (plain_kind kind.now)) (plain_kind kind.now) n memory.now) }
+    ensures { (fields : List ConfigField)
+        → result
+        ≡ charged (rules.scalar_faults fields memories.now (kind_named (plain_kind kind.now))
+        (plain_kind kind.now) n memory.now) }
 {
     match kind_named(kind) {
         Some(_) => no_memory_charge(memories, n + 1, memory),
@@ -72,7 +75,9 @@ fn test_form(
     memory: &Option<Text>,
 ) -> (Charge, usize)
     requires { n + form_width (plain_form form.now) < most_tokens }
-    ensures charge { result.0 ≡ charged (rules.form_faults names.now.fields.now memories.now names.now.scope.now n (plain_form form.now) memory.now) }
+    ensures charge { result.0
+        ≡ charged (rules.form_faults names.now.fields.now memories.now names.now.scope.now n
+        (plain_form form.now) memory.now) }
     ensures end { result.1 ≡ n + form_width (plain_form form.now) }
 {
     match form {
@@ -100,7 +105,10 @@ fn scalar_of(
     memory: &Option<Text>,
 ) -> ParamKind
     requires { length memories.now ≤ 4294967295 }
-    ensures { (fields : List ConfigField) → parameter_kind result ≡ rules.scalar_of fields memories.now (kind_named (plain_kind kind.now)) (plain_kind kind.now) memory.now }
+    ensures { (fields : List ConfigField)
+        → parameter_kind result
+        ≡ rules.scalar_of fields memories.now (kind_named (plain_kind kind.now))
+        (plain_kind kind.now) memory.now }
 {
     match kind_named(kind) {
         Some(named) => ParamKind::Ctrl(named),
@@ -120,7 +128,10 @@ fn form_of(
     memory: &Option<Text>,
 ) -> Result<ParamKind, AllocError>
     requires { length memories.now ≤ 4294967295 }
-    ensures { IfOk result (λ k. parameter_kind k ≡ rules.form_of names.now.fields.now memories.now names.now.scope.now (plain_form form.now) memory.now) }
+    ensures { IfOk result
+        (λ k. parameter_kind k
+        ≡ rules.form_of names.now.fields.now memories.now names.now.scope.now
+        (plain_form form.now) memory.now) }
 {
     match form {
         SourceType::Plain(kind, dims) => {
@@ -172,7 +183,11 @@ fn add_param<'c>(
     made: &mut Params,
 ) -> Result<usize, Refusal>
     requires { HasRoom context.now walk.old n (parameter_width (plain_parameter param.now)) }
-    ensures { MatchResult result (λ end. IsPut context.now walk.old walk.new made.old made.new n end (plain_parameter param.now)) (λ e. Refuses e (definitions.param_fault context.now walk.old n (plain_parameter param.now))) }
+    ensures { MatchResult result
+        (λ end. IsPut context.now walk.old walk.new made.old made.new n end
+        (plain_parameter param.now))
+        (λ e. Refuses e
+        (definitions.param_fault context.now walk.old n (plain_parameter param.now))) }
 {
     let (charge, end) = test_param(context, walk, n, param);
     keep(charge)?;
@@ -203,7 +218,10 @@ fn add_params<'c>(
 ) -> Result<usize, Refusal>
     requires room { HasRoom context.now walk.old n (params_width (map plain_parameter params.now)) }
     requires empty { made.old ≡ [] }
-    ensures made { MatchResult result (λ _. AreParams context.now walk.old walk.new made.new n (map plain_parameter params.now)) (λ e. Refuses e (definitions.params_fault context.now walk.old n (map plain_parameter params.now))) }
+    ensures made { MatchResult result
+        (λ _. AreParams context.now walk.old walk.new made.new n (map plain_parameter params.now))
+        (λ e. Refuses e
+        (definitions.params_fault context.now walk.old n (map plain_parameter params.now))) }
     ensures end { IfOk result (λ end. end ≡ n + params_width (map plain_parameter params.now)) }
 {
     let mut next = n;
@@ -223,7 +241,9 @@ fn add_assert(
     made: &mut Conds,
 ) -> Result<usize, Refusal>
     requires { n + width (tree_of e.now) + 2 ≤ most_tokens }
-    ensures made { MatchResult result (λ _. IsAssert context.now scope.now n made.old made.new (tree_of e.now)) (λ r. Refuses r (definitions.assert_fault context.now scope.now n (tree_of e.now))) }
+    ensures made { MatchResult result
+        (λ _. IsAssert context.now scope.now n made.old made.new (tree_of e.now))
+        (λ r. Refuses r (definitions.assert_fault context.now scope.now n (tree_of e.now))) }
     ensures end { IfOk result (λ end. end ≡ n + width (tree_of e.now) + 2) }
 {
     let names = Names {
@@ -246,7 +266,10 @@ fn add_asserts(
 ) -> Result<usize, Refusal>
     requires room { n + asserts_width (map tree_of asserts.now) ≤ most_tokens }
     requires empty { made.old ≡ [] }
-    ensures made { MatchResult result (λ _. AreAsserts context.now scope.now n made.new (map tree_of asserts.now)) (λ r. Refuses r (definitions.asserts_fault context.now scope.now n (map tree_of asserts.now))) }
+    ensures made { MatchResult result
+        (λ _. AreAsserts context.now scope.now n made.new (map tree_of asserts.now))
+        (λ r. Refuses r
+        (definitions.asserts_fault context.now scope.now n (map tree_of asserts.now))) }
     ensures end { IfOk result (λ end. end ≡ n + asserts_width (map tree_of asserts.now)) }
 {
     let mut next = n;
@@ -319,7 +342,16 @@ fn fill<'c>(
     requires params { made.old.params ≡ [] }
     requires asserts { made.old.asserts ≡ [] }
     requires body { made.old.body ≡ [] }
-    ensures { MatchResult result (λ end. IsDefined context.now walk.old.next_id made.old.template n (record { procedure = made.new; lines = walk.new.lines; next_id = walk.new.next_id; end = end }) (plain_definition definition.now)) (λ e. Refuses e (definitions.definition_fault context.now walk.old.next_id n (plain_definition definition.now))) }
+    ensures { MatchResult result
+        (λ end. IsDefined context.now walk.old.next_id made.old.template n (record {
+          procedure = made.new;
+          lines = walk.new.lines;
+          next_id = walk.new.next_id;
+          end = end;
+        }) (plain_definition definition.now))
+        (λ e. Refuses e
+        (definitions.definition_fault context.now walk.old.next_id n
+        (plain_definition definition.now))) }
 {
     let closed = add_params(
         context,
@@ -349,7 +381,10 @@ pub fn definition_of<'c>(
     definition: &'c SourceDef,
 ) -> Result<Defined, Refusal>
     requires { HasSpace context.now first_id n (plain_definition definition.now) }
-    ensures { MatchResult result (λ r. IsDefined context.now first_id template n r (plain_definition definition.now)) (λ e. Refuses e (definitions.definition_fault context.now first_id n (plain_definition definition.now))) }
+    ensures { MatchResult result
+        (λ r. IsDefined context.now first_id template n r (plain_definition definition.now))
+        (λ e. Refuses e
+        (definitions.definition_fault context.now first_id n (plain_definition definition.now))) }
 {
     let mut procedure = empty_procedure(context.alloc, definition.name.as_str(), template)?;
     let mut walk = first_walk(context.alloc, first_id);

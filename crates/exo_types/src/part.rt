@@ -90,7 +90,9 @@ pub fn test_dims(names: &Names, n: usize, dims: &[SourceExpr]) -> (Charge, usize
 /// The charge of the left side of an assignment, and the number of the token behind it.
 fn test_target(names: &Names, n: usize, x: &Text, dims: &[SourceExpr]) -> (Charge, usize)
     requires { n + 1 + dims_width (map tree_of dims.now) ≤ most_tokens }
-    ensures charge { result.0 ≡ charged (window_faults names.now.fields.now is_buffer names.now.scope.now n x.now (points (map tree_of dims.now))) }
+    ensures charge { result.0
+        ≡ charged (window_faults names.now.fields.now is_buffer names.now.scope.now n x.now
+        (points (map tree_of dims.now))) }
     ensures end { result.1 ≡ n + 1 + dims_width (map tree_of dims.now) }
 {
     let sort = names.scope.sort(x.as_str());
@@ -109,7 +111,9 @@ pub fn test_store(
     e: &SourceExpr,
 ) -> (Charge, usize)
     requires { n + (1 + dims_width (map tree_of dims.now) + 1 + width (tree_of e.now) + 1) ≤ most_tokens }
-    ensures charge { result.0 ≡ charged (store_faults names.now.fields.now names.now.scope.now n x.now (map tree_of dims.now) (tree_of e.now)) }
+    ensures charge { result.0
+        ≡ charged (store_faults names.now.fields.now names.now.scope.now n x.now
+        (map tree_of dims.now) (tree_of e.now)) }
     ensures end { result.1 ≡ n + (1 + dims_width (map tree_of dims.now) + 1 + width (tree_of e.now) + 1) }
 {
     let (target, end) = test_target(names, n, x, dims);

@@ -114,9 +114,13 @@ fn add_call(
     arguments: &SourceArgs,
     made: &mut Block,
 ) -> Result<usize, Refusal>
-    requires room { n + statement_width (call name.now (map plain_argument arguments.now.items.items) arguments.now.trailing) ≤ most_tokens }
+    requires room { n + statement_width
+        (call name.now (map plain_argument arguments.now.items.items) arguments.now.trailing)
+        ≤ most_tokens }
     requires few { length context.now.procedures.now ≤ 4294967295 }
-    ensures { Puts context.now walk.now walk.now made.old made.new n (call name.now (map plain_argument arguments.now.items.items) arguments.now.trailing) result }
+    ensures { Puts context.now walk.now walk.now made.old made.new n
+        (call name.now
+        (map plain_argument arguments.now.items.items) arguments.now.trailing) result }
 {
     let names = Names {
         fields: context.fields,
@@ -148,7 +152,9 @@ fn test_alloc(
     memory: &Option<Text>,
 ) -> (Charge, usize)
     requires { n + statement_width (allocate x.now (plain_kind kind.now) (map tree_of dims.now) memory.now) ≤ most_tokens }
-    ensures charge { result.0 ≡ charged (walks.own_faults context.now walk.now n (allocate x.now (plain_kind kind.now) (map tree_of dims.now) memory.now)) }
+    ensures charge { result.0
+        ≡ charged (walks.own_faults context.now walk.now n
+        (allocate x.now (plain_kind kind.now) (map tree_of dims.now) memory.now)) }
     ensures end { result.1 ≡ n + statement_width (allocate x.now (plain_kind kind.now) (map tree_of dims.now) memory.now) }
 {
     let names = Names {
@@ -174,7 +180,8 @@ fn add_alloc<'c>(
     made: &mut Block,
 ) -> Result<usize, Refusal>
     requires { HasRoom context.now walk.old n (statement_width (allocate x.now (plain_kind kind.now) (map tree_of dims.now) memory.now)) }
-    ensures { Puts context.now walk.old walk.new made.old made.new n (allocate x.now (plain_kind kind.now) (map tree_of dims.now) memory.now) result }
+    ensures { Puts context.now walk.old walk.new made.old made.new n
+        (allocate x.now (plain_kind kind.now) (map tree_of dims.now) memory.now) result }
 {
     let (charge, end) = test_alloc(context, walk, n, x, kind, dims, memory);
     keep(charge)?;
@@ -294,8 +301,12 @@ fn add_branch<'c>(
     b: &'c [SourceStmt],
     made: &mut Block,
 ) -> Result<usize, Refusal>
-    requires { HasRoom context.now walk.old n (statement_width (branch (tree_of c.now) (block_of (map plain_statement a.now)) (block_of (map plain_statement b.now)))) }
-    ensures { Puts context.now walk.old walk.new made.old made.new n (branch (tree_of c.now) (block_of (map plain_statement a.now)) (block_of (map plain_statement b.now))) result }
+    requires { HasRoom context.now walk.old n
+        (statement_width (branch (tree_of c.now) (block_of (map plain_statement a.now))
+        (block_of (map plain_statement b.now)))) }
+    ensures { Puts context.now walk.old walk.new made.old made.new n
+        (branch (tree_of c.now) (block_of (map plain_statement a.now))
+        (block_of (map plain_statement b.now))) result }
 {
     let names = Names {
         fields: context.fields,
@@ -343,7 +354,9 @@ fn test_loop(
     high: &SourceExpr,
 ) -> (Charge, usize)
     requires { n + 5 + width (tree_of low.now) + 1 + width (tree_of high.now) ≤ most_tokens }
-    ensures charge { result.0 ≡ charged (walks.own_faults context.now walk.now n (loop i.now (tree_of low.now) (tree_of high.now) source.end)) }
+    ensures charge { result.0
+        ≡ charged (walks.own_faults context.now walk.now n
+        (loop i.now (tree_of low.now) (tree_of high.now) source.end)) }
     ensures end { result.1 ≡ n + 5 + width (tree_of low.now) + 1 + width (tree_of high.now) }
 {
     let names = Names {
@@ -366,7 +379,11 @@ fn put_loop(
     inside: Block,
     made: &mut Block,
 ) -> Result<(), AllocError>
-    ensures { OnOk result (made.new ≡ made.old ++ tree.For (binding binder) (control_of context.now.fields.now scope.now (tree_of low.now)) (control_of context.now.fields.now scope.now (tree_of high.now)) (tree.block inside) ∷ []) }
+    ensures { OnOk result
+        (made.new
+        ≡ made.old
+        ++ tree.For (binding binder) (control_of context.now.fields.now scope.now (tree_of low.now))
+        (control_of context.now.fields.now scope.now (tree_of high.now)) (tree.block inside) ∷ []) }
 {
     let names = Names {
         fields: context.fields,
@@ -389,8 +406,12 @@ fn add_loop<'c>(
     a: &'c [SourceStmt],
     made: &mut Block,
 ) -> Result<usize, Refusal>
-    requires { HasRoom context.now walk.old n (statement_width (loop i.now (tree_of low.now) (tree_of high.now) (block_of (map plain_statement a.now)))) }
-    ensures { Puts context.now walk.old walk.new made.old made.new n (loop i.now (tree_of low.now) (tree_of high.now) (block_of (map plain_statement a.now))) result }
+    requires { HasRoom context.now walk.old n
+        (statement_width (loop i.now (tree_of low.now) (tree_of high.now)
+        (block_of (map plain_statement a.now)))) }
+    ensures { Puts context.now walk.old walk.new made.old made.new n
+        (loop i.now (tree_of low.now) (tree_of high.now)
+        (block_of (map plain_statement a.now))) result }
 {
     let (charge, bounds_end) = test_loop(context, walk, n, i, low, high);
     keep(charge)?;

@@ -72,7 +72,9 @@ fn step(template: &[u8], k: usize, reading: Reading, params: &[SourceParam]) -> 
     requires inside { k < length template.now }
     requires begun { IsBegun k reading }
     ensures begun { IfSome result (λ r. IsBegun (k + 1) r) }
-    ensures fits { (ps : List Param) → HaveHoles ps (map plain_parameter params.now) → fits_from ps template.now k (Some reading) ≡ fits_from ps template.now (k + 1) result }
+    ensures fits { (ps : List Param)
+        → HaveHoles ps (map plain_parameter params.now)
+        → fits_from ps template.now k (Some reading) ≡ fits_from ps template.now (k + 1) result }
 {
     let byte = template[k];
     match reading {

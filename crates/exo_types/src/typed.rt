@@ -1,5 +1,6 @@
 //! The unit so far, with the tables of its names; and what each item adds to it.
-ghost use Rattle.std.specs.Prelude.{◌≡◌, ◌+◌, ◌*◌, ◌<◌, ◌≤◌, [], ◌∷◌, ◌++◌, List, None, not, false, is_some, if◌then◌else◌, map, length, IfOk, OnOk, MatchResult};
+ghost use Rattle.std.specs.Prelude.{◌≡◌, ◌+◌, ◌*◌, ◌<◌, ◌≤◌, [], ◌∷◌, ◌++◌, List, None, not, false};
+ghost use Rattle.std.specs.Prelude.{is_some, if◌then◌else◌, map, length, IfOk, OnOk, MatchResult};
 ghost use Rattle.std.specs.List.{list_any};
 ghost use Rattle.exo_tree.specs.Tree.{block};
 ghost use Rattle.exo_tree.specs.PlainUnit.{program};
@@ -19,7 +20,8 @@ ghost use Rattle.exo_types.specs.UnitRules as rules;
 ghost use Rattle.exo_types.specs.UnitRules.{nothing_above, is_given, item_fault, item_width, procedure_fault};
 ghost use Rattle.exo_types.specs.MemoryRules.{dram};
 ghost use Rattle.exo_types.specs.UnitLines.{line_at};
-ghost use Rattle.exo_types.specs.Standing.{Agrees, IsFew, Stands, HasPlaces, field_fault, here_fault, IsHere, IsPushed, IsProcedure, IsAdded};
+ghost use Rattle.exo_types.specs.Standing.{Agrees, IsFew, Stands, HasPlaces, field_fault};
+ghost use Rattle.exo_types.specs.Standing.{here_fault, IsHere, IsPushed, IsProcedure, IsAdded};
 
 use crate::attribute::{attributes_fault, joined, lanes_charge, memory_of, plain_memory};
 use crate::context::Context;
@@ -63,7 +65,9 @@ fn add_field<'c>(
 ) -> Result<(), Refusal>
     requires few { length table.old < 4294967295 }
     requires tokens { n + 2 ≤ most_tokens }
-    ensures kept { MatchResult result (λ x. field_fault table.old config.now n (plain_field field.now) ≡ None) (λ e. Refuses e (field_fault table.old config.now n (plain_field field.now))) }
+    ensures kept { MatchResult result
+        (λ x. field_fault table.old config.now n (plain_field field.now) ≡ None)
+        (λ e. Refuses e (field_fault table.old config.now n (plain_field field.now))) }
     ensures table { OnOk result (table.new ≡ table.old ++ field_of config.now (plain_field field.now) ∷ []) }
     ensures fields { OnOk result (fields.new ≡ fields.old ++ field_of config.now (plain_field field.now) ∷ []) }
 {
@@ -94,7 +98,9 @@ fn add_fields<'c>(
     requires few { length table.old + length list.now ≤ 4294967295 }
     requires new { list_any (λ f. is_text f.config config.now) table.old ≡ false }
     requires tokens { n + 4 * length list.now ≤ most_tokens }
-    ensures kept { MatchResult result (λ x. fields_fault [] config.now n (map plain_field list.now) ≡ None) (λ e. Refuses e (fields_fault [] config.now n (map plain_field list.now))) }
+    ensures kept { MatchResult result
+        (λ x. fields_fault [] config.now n (map plain_field list.now) ≡ None)
+        (λ e. Refuses e (fields_fault [] config.now n (map plain_field list.now))) }
     ensures end { IfOk result (λ end. end ≡ n + 4 * length list.now) }
     ensures table { OnOk result (table.new ≡ table.old ++ map (field_of config.now) (map plain_field list.now)) }
     ensures fields { OnOk result (fields.new ≡ fields.old ++ map (field_of config.now) (map plain_field list.now)) }
@@ -213,8 +219,15 @@ impl<'c> Typed<'c> {
         requires agrees { Agrees self.now }
         requires few { IsFew self.now n }
         requires places { HasPlaces places.now (definition_end n (plain_definition definition.now)) }
-        ensures made { (above : rules.Above) → Stands self.now above → MatchResult result (λ r. IsHere above places.now template n r.0 (plain_definition definition.now)) (λ e. Refuses e (here_fault above n (plain_definition definition.now))) }
-        ensures row { IfOk result (λ r. row_writes r.1 ≡ block_writes self.now.unit.procs (rows_write self.now.rows.items) (λ y. y) (block r.0.procedure.body)) }
+        ensures made { (above : rules.Above)
+            → Stands self.now above
+            → MatchResult result
+            (λ r. IsHere above places.now template n r.0 (plain_definition definition.now))
+            (λ e. Refuses e (here_fault above n (plain_definition definition.now))) }
+        ensures row { IfOk result
+            (λ r. row_writes r.1
+            ≡ block_writes self.now.unit.procs (rows_write self.now.rows.items) (λ y. y)
+            (block r.0.procedure.body)) }
     {
         let context = Context {
             alloc,
@@ -261,7 +274,12 @@ impl<'c> Typed<'c> {
         requires agrees { Agrees self.old }
         requires few { IsFew self.old n }
         requires places { HasPlaces places.now (definition_end n (plain_definition definition.now)) }
-        ensures { (above : rules.Above) → Stands self.old above → MatchResult result (λ end. IsProcedure above places.now self.old self.new template n end (plain_definition definition.now)) (λ e. Refuses e (procedure_fault above n (plain_definition definition.now))) }
+        ensures { (above : rules.Above)
+            → Stands self.old above
+            → MatchResult result
+            (λ end. IsProcedure above places.now self.old self.new template n end
+            (plain_definition definition.now))
+            (λ e. Refuses e (procedure_fault above n (plain_definition definition.now))) }
     {
         keep(self.name_charge(&definition.name, n + 1))?;
         let (made, row) = self.defined(alloc, places, n, template, definition)?;
@@ -286,7 +304,14 @@ impl<'c> Typed<'c> {
         requires agrees { Agrees self.old }
         requires few { IsFew self.old n }
         requires places { HasPlaces places.now (n + item_width (source.instruction pieces.now (plain_definition definition.now))) }
-        ensures { (above : rules.Above) → Stands self.old above → MatchResult result (λ end. IsAdded above places.now self.old self.new n end (source.instruction pieces.now (plain_definition definition.now))) (λ e. Refuses e (item_fault above n (source.instruction pieces.now (plain_definition definition.now)))) }
+        ensures { (above : rules.Above)
+            → Stands self.old above
+            → MatchResult result
+            (λ end. IsAdded above places.now self.old self.new n end
+            (source.instruction pieces.now (plain_definition definition.now)))
+            (λ e. Refuses e
+            (item_fault above n
+            (source.instruction pieces.now (plain_definition definition.now)))) }
     {
         let template = joined(alloc, pieces)?;
         let fits = is_template(template.as_str().as_bytes(), &definition.params.items);
@@ -306,7 +331,14 @@ impl<'c> Typed<'c> {
         requires agrees { Agrees self.old }
         requires few { IsFew self.old n }
         requires tokens { n + item_width (source.configuration name.now (map plain_field fields.now)) ≤ 0x100001 }
-        ensures { (above : rules.Above) → (places : List Place) → Stands self.old above → MatchResult result (λ end. IsAdded above places self.old self.new n end (source.configuration name.now (map plain_field fields.now))) (λ e. Refuses e (item_fault above n (source.configuration name.now (map plain_field fields.now)))) }
+        ensures { (above : rules.Above)
+            → (places : List Place)
+            → Stands self.old above
+            → MatchResult result
+            (λ end. IsAdded above places self.old self.new n end
+            (source.configuration name.now (map plain_field fields.now)))
+            (λ e. Refuses e
+            (item_fault above n (source.configuration name.now (map plain_field fields.now)))) }
     {
         keep(self.name_charge(name, n + 3))?;
         let end = add_fields(
@@ -332,7 +364,14 @@ impl<'c> Typed<'c> {
         requires agrees { Agrees self.old }
         requires few { IsFew self.old n }
         requires tokens { n + item_width (source.memory name.now (map plain_attribute attributes.now)) ≤ 0x100001 }
-        ensures { (above : rules.Above) → (places : List Place) → Stands self.old above → MatchResult result (λ end. IsAdded above places self.old self.new n end (source.memory name.now (map plain_attribute attributes.now))) (λ e. Refuses e (item_fault above n (source.memory name.now (map plain_attribute attributes.now)))) }
+        ensures { (above : rules.Above)
+            → (places : List Place)
+            → Stands self.old above
+            → MatchResult result
+            (λ end. IsAdded above places self.old self.new n end
+            (source.memory name.now (map plain_attribute attributes.now)))
+            (λ e. Refuses e
+            (item_fault above n (source.memory name.now (map plain_attribute attributes.now)))) }
     {
         let (own, end) = attributes_fault(alloc, attributes, n + 7)?;
         let made = memory_of(alloc, name.as_str(), attributes)?;
@@ -357,7 +396,11 @@ impl<'c> Typed<'c> {
         requires agrees { Agrees self.old }
         requires few { IsFew self.old n }
         requires places { HasPlaces places.now (n + item_width (plain_item item.now)) }
-        ensures { (above : rules.Above) → Stands self.old above → MatchResult result (λ end. IsAdded above places.now self.old self.new n end (plain_item item.now)) (λ e. Refuses e (item_fault above n (plain_item item.now))) }
+        ensures { (above : rules.Above)
+            → Stands self.old above
+            → MatchResult result
+            (λ end. IsAdded above places.now self.old self.new n end (plain_item item.now))
+            (λ e. Refuses e (item_fault above n (plain_item item.now))) }
     {
         match item {
             SourceItem::Procedure(definition) => {

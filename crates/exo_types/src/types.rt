@@ -4,7 +4,8 @@ ghost use Rattle.exo_tree.specs.PlainBinder.{cell_type, control_kind};
 ghost use Rattle.exo_meaning.specs.Units.{is_text};
 ghost use Rattle.exo_reader.specs.Views.{plain_kind};
 ghost use Rattle.rules_names.specs.Faults.{charged};
-ghost use Rattle.exo_types.specs.TypeRules.{cell_among, cell_of_text, cell_named, kind_of_text, kind_named, cell_faults, kind_faults, cell_of, kind_of};
+ghost use Rattle.exo_types.specs.TypeRules.{cell_among, cell_of_text, cell_named, kind_of_text};
+ghost use Rattle.exo_types.specs.TypeRules.{kind_named, cell_faults, kind_faults, cell_of, kind_of};
 
 use exo_reader::source::SourceKind;
 use exo_tree::{Cell, Kind};

@@ -27,7 +27,9 @@ fn add_items<'c>(
     requires stands { Stands typed.old nothing_above }
     requires lines { typed.old.unit.lines ≡ [] }
     requires places { HasPlaces places.now (items_width (map plain_item items.now)) }
-    ensures { MatchResult result (λ x. IsUnitOf places.now (map plain_item items.now) typed.new.unit) (λ e. Refuses e (unit_fault (map plain_item items.now))) }
+    ensures { MatchResult result
+        (λ x. IsUnitOf places.now (map plain_item items.now) typed.new.unit)
+        (λ e. Refuses e (unit_fault (map plain_item items.now))) }
 {
     let mut next = 0;
     for item in items {

@@ -7,7 +7,10 @@ ghost use Rattle.exo_tree.specs.PlainParam.{parameter};
 ghost use Rattle.exo_tree.specs.PlainArgument.{argument};
 ghost use Rattle.exo_tree.specs.PlainStatement.{statement};
 ghost use Rattle.exo_tree.specs.PlainUnit.{program};
-ghost use Rattle.memory_kinds.specs.Faults.{or_first, in_memory, reads_fault, given_fault, argument_fault, arguments_fault, call_fault, block_fault, step_fault, kind_fault, params_fault, alloc_fault, fault_of};
+ghost use Rattle.memory_kinds.specs.Faults.{or_first, in_memory, reads_fault, given_fault};
+ghost use Rattle.memory_kinds.specs.Faults.{argument_fault, arguments_fault, call_fault};
+ghost use Rattle.memory_kinds.specs.Faults.{block_fault, step_fault, kind_fault, params_fault};
+ghost use Rattle.memory_kinds.specs.Faults.{alloc_fault, fault_of};
 ghost use Rattle.memory_kinds.specs.Uses.{use_fault};
 ghost use Rattle.memory_kinds.specs.Scope.{homes_in};
 ghost use Rattle.memory_kinds.specs.Recent.{AreTrue};
@@ -85,7 +88,9 @@ fn check_both(
     b: &DataExpr,
 ) -> Result<(), KindError>
     requires { AreTrue recent.old (homes_in scope.now) }
-    ensures value { result_err result ≡ or_first (reads_fault memories.now (homes_in scope.now) (datum a.now)) (reads_fault memories.now (homes_in scope.now) (datum b.now)) }
+    ensures value { result_err result
+        ≡ or_first (reads_fault memories.now (homes_in scope.now) (datum a.now))
+        (reads_fault memories.now (homes_in scope.now) (datum b.now)) }
     ensures kept { OnOk result (AreTrue recent.new (homes_in scope.now)) }
 {
     check_reads(memories, scope, recent, a)?;
@@ -159,7 +164,9 @@ fn check_arguments(
     args: &[Arg],
 ) -> Result<(), KindError>
     requires { AreTrue recent.old (homes_in scope.now) }
-    ensures value { result_err result ≡ arguments_fault memories.now (homes_in scope.now) (map parameter params.now) (map argument args.now) }
+    ensures value { result_err result
+        ≡ arguments_fault memories.now (homes_in scope.now) (map parameter params.now)
+        (map argument args.now) }
     ensures kept { OnOk result (AreTrue recent.new (homes_in scope.now)) }
 {
     for k in 0..params.len().min(args.len()) {

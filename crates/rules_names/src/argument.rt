@@ -7,7 +7,10 @@ ghost use Rattle.rules_names.specs.WindowRules.{coordinates_of};
 ghost use Rattle.exo_tree.specs.PlainControl.{control, condition};
 ghost use Rattle.text_expressions.specs.Views.{tree_of};
 ghost use Rattle.rules_names.specs.Resolved.{control_of, condition_of};
-ghost use Rattle.rules_names.specs.Arguments.{is_count, sides_form, is_control_form, condition_sides, is_condition_form, knows_fields, is_coordinate_form, knows_coordinate, IsRefused, IsTaken};
+ghost use Rattle.rules_names.specs.Arguments.{is_count, sides_form, is_control_form};
+ghost use Rattle.rules_names.specs.Arguments.{condition_sides, is_condition_form, knows_fields};
+ghost use Rattle.rules_names.specs.Arguments.{is_coordinate_form, knows_coordinate, IsRefused};
+ghost use Rattle.rules_names.specs.Arguments.{IsTaken};
 
 use crate::resolved::{condition_of, control_of, coordinates_of, id_in};
 use crate::tested::{Names, all_of};
@@ -136,7 +139,12 @@ fn refusal(form: bool, knows: bool) -> Result<(), ArgError>
 
 /// The control value of a string, in a scope. A name that is not in scope stands for the id 4294967295.
 pub fn control_argument(alloc: Global, names: &Names, e: &SourceExpr) -> Result<Ctrl, ArgError>
-    ensures { MatchResult result (λ c. IsTaken (is_control_form (tree_of e.now)) (knows_fields names.now.fields.now (tree_of e.now)) × (control c ≡ control_of names.now.fields.now names.now.scope.now (tree_of e.now))) (λ r. IsRefused (is_control_form (tree_of e.now)) (knows_fields names.now.fields.now (tree_of e.now)) r) }
+    ensures { MatchResult result
+        (λ c. IsTaken (is_control_form (tree_of e.now))
+        (knows_fields names.now.fields.now (tree_of e.now))
+        × (control c ≡ control_of names.now.fields.now names.now.scope.now (tree_of e.now)))
+        (λ r. IsRefused (is_control_form (tree_of e.now))
+        (knows_fields names.now.fields.now (tree_of e.now)) r) }
 {
     refusal(is_control_form(e), knows_fields(names, e))?;
     let value = control_of(alloc, names, e)?;
@@ -145,7 +153,12 @@ pub fn control_argument(alloc: Global, names: &Names, e: &SourceExpr) -> Result<
 
 /// The condition of a string, in a scope. A name that is not in scope stands for the id 4294967295.
 pub fn condition_argument(alloc: Global, names: &Names, e: &SourceExpr) -> Result<Cond, ArgError>
-    ensures { MatchResult result (λ c. IsTaken (is_condition_form (tree_of e.now)) (knows_fields names.now.fields.now (tree_of e.now)) × (condition c ≡ condition_of names.now.fields.now names.now.scope.now (tree_of e.now))) (λ r. IsRefused (is_condition_form (tree_of e.now)) (knows_fields names.now.fields.now (tree_of e.now)) r) }
+    ensures { MatchResult result
+        (λ c. IsTaken (is_condition_form (tree_of e.now))
+        (knows_fields names.now.fields.now (tree_of e.now))
+        × (condition c ≡ condition_of names.now.fields.now names.now.scope.now (tree_of e.now)))
+        (λ r. IsRefused (is_condition_form (tree_of e.now))
+        (knows_fields names.now.fields.now (tree_of e.now)) r) }
 {
     refusal(is_condition_form(e), knows_fields(names, e))?;
     let value = condition_of(alloc, names, e)?;
@@ -203,7 +216,14 @@ pub fn window_argument(
     name: &str,
     list: &[SourceCoord],
 ) -> Result<(Id, Coords), ArgError>
-    ensures { MatchResult result (λ w. IsTaken (list_all is_coordinate_form (map plain_coordinate list.now)) (list_all (knows_coordinate names.now.fields.now) (map plain_coordinate list.now)) × (w.0.0 ≡ id_in names.now.scope.now name.now) × (w.1 ≡ coordinates_of names.now.fields.now names.now.scope.now (map plain_coordinate list.now))) (λ r. IsRefused (list_all is_coordinate_form (map plain_coordinate list.now)) (list_all (knows_coordinate names.now.fields.now) (map plain_coordinate list.now)) r) }
+    ensures { MatchResult result
+        (λ w. IsTaken (list_all is_coordinate_form (map plain_coordinate list.now))
+        (list_all (knows_coordinate names.now.fields.now) (map plain_coordinate list.now))
+        × (w.0.0 ≡ id_in names.now.scope.now name.now)
+        × (w.1
+        ≡ coordinates_of names.now.fields.now names.now.scope.now (map plain_coordinate list.now)))
+        (λ r. IsRefused (list_all is_coordinate_form (map plain_coordinate list.now))
+        (list_all (knows_coordinate names.now.fields.now) (map plain_coordinate list.now)) r) }
 {
     refusal(are_coordinates(list), knows_coordinates(names, list))?;
     let coordinates = coordinates_of(alloc, names, list)?;

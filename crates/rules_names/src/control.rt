@@ -9,7 +9,11 @@ ghost use Rattle.rules_names.specs.declared.fault.Fault.{Fault};
 ghost use Rattle.exo_meaning.specs.Units.{is_number, is_flag};
 ghost use Rattle.rules_names.specs.Names.{named_in, sort_of, field_in};
 ghost use Rattle.rules_names.specs.Tests.{Tells, Varies, Joined, reads, most_tokens};
-ghost use Rattle.rules_names.specs.ExpressionRules.{width, closed_width, is_divisor, has_variables, affine_faults, suits, name_faults, field_suits, field_faults, may_be_control, may_be_condition, unknown_first, wrong_form, control_faults, controls_faults, condition_faults};
+ghost use Rattle.rules_names.specs.ExpressionRules.{width, closed_width, is_divisor, has_variables};
+ghost use Rattle.rules_names.specs.ExpressionRules.{affine_faults, suits, name_faults, field_suits};
+ghost use Rattle.rules_names.specs.ExpressionRules.{field_faults, may_be_control, may_be_condition};
+ghost use Rattle.rules_names.specs.ExpressionRules.{unknown_first, wrong_form, control_faults};
+ghost use Rattle.rules_names.specs.ExpressionRules.{controls_faults, condition_faults};
 
 use crate::error::TypeKind;
 use crate::fault::Charge;
@@ -94,7 +98,9 @@ pub(crate) fn negated(inner: Tested) -> Tested
 /// The test of a name where a number is asked.
 fn test_number(names: &Names, n: usize, x: &Text) -> Tested
     requires { n + 1 ≤ most_tokens }
-    ensures tells { Tells result (name_faults is_number (sort_of (named_in names.now.scope.now x.now)) n) (suits is_number (sort_of (named_in names.now.scope.now x.now))) n (variable x.now) }
+    ensures tells { Tells result
+        (name_faults is_number (sort_of (named_in names.now.scope.now x.now)) n)
+        (suits is_number (sort_of (named_in names.now.scope.now x.now))) n (variable x.now) }
     ensures variables { result.variables ≡ true }
 {
     let sort = names.scope.sort(x.as_str());
@@ -105,7 +111,9 @@ fn test_number(names: &Names, n: usize, x: &Text) -> Tested
 /// The test of a name where a bool is asked.
 fn test_flag(names: &Names, n: usize, x: &Text) -> Tested
     requires { n + 1 ≤ most_tokens }
-    ensures { Tells result (name_faults is_flag (sort_of (named_in names.now.scope.now x.now)) n) (suits is_flag (sort_of (named_in names.now.scope.now x.now))) n (variable x.now) }
+    ensures { Tells result
+        (name_faults is_flag (sort_of (named_in names.now.scope.now x.now)) n)
+        (suits is_flag (sort_of (named_in names.now.scope.now x.now))) n (variable x.now) }
 {
     let sort = names.scope.sort(x.as_str());
     let fits = is_flag(sort);
@@ -115,7 +123,10 @@ fn test_flag(names: &Names, n: usize, x: &Text) -> Tested
 /// The test of a field where a bool is asked, or a number.
 fn test_field(names: &Names, wants_truth: bool, may: bool, n: usize, c: &Text, x: &Text) -> Tested
     requires { n + 3 ≤ most_tokens }
-    ensures tells { Tells result (field_faults wants_truth may (field_in names.now.fields.now c.now x.now) n) (field_suits wants_truth (field_in names.now.fields.now c.now x.now)) n (field c.now x.now) }
+    ensures tells { Tells result
+        (field_faults wants_truth may (field_in names.now.fields.now c.now x.now) n)
+        (field_suits wants_truth (field_in names.now.fields.now c.now x.now)) n
+        (field c.now x.now) }
     ensures variables { result.variables ≡ true }
 {
     let found = names.fields.get(c.as_str(), x.as_str());
@@ -146,7 +157,10 @@ pub(crate) fn enclosed(inner: Tested, n: usize) -> Tested
 /// The test of a stride.
 fn test_stride(names: &Names, may: Reads, n: usize, x: &Text, k: u32) -> Tested
     requires { n + 6 ≤ most_tokens }
-    ensures tells { Tells result (control_faults names.now.fields.now (reads may) names.now.scope.now n (stride x.now (Value k))) true n (stride x.now (Value k)) }
+    ensures tells { Tells result
+        (control_faults names.now.fields.now (reads may) names.now.scope.now n
+        (stride x.now (Value k))) true n
+        (stride x.now (Value k)) }
     ensures variables { result.variables ≡ true }
 {
     let sort = names.scope.sort(x.as_str());
@@ -165,7 +179,16 @@ fn joined(
     middle: usize,
     divides: bool,
 ) -> Tested
-    ensures joined { (a b : List Fault) (l r : Tree) → left.charge ≡ charged a → right.charge ≡ charged b → Varies left l → Varies right r → divides ≡ is_divisor r → Joined result (parts_then_whole (a ++ b) (affine_faults operator n middle (has_variables l && has_variables r) (is_divisor r))) (has_variables l || has_variables r) }
+    ensures joined { (a b : List Fault) (l r : Tree)
+        → left.charge ≡ charged a
+        → right.charge ≡ charged b
+        → Varies left l
+        → Varies right r
+        → divides ≡ is_divisor r
+        → Joined result
+        (parts_then_whole (a ++ b)
+        (affine_faults operator n middle (has_variables l && has_variables r) (is_divisor r)))
+        (has_variables l || has_variables r) }
     ensures end { result.end ≡ right.end }
     ensures form { result.fits ≡ true }
 {
@@ -179,7 +202,10 @@ fn joined(
 /// The test of an expression that stands where a control value is asked: a number.
 pub fn test_control(names: &Names, may: Reads, n: usize, e: &SourceExpr) -> Tested
     requires { n + width (tree_of e.now) ≤ most_tokens }
-    ensures tells { Tells result (control_faults names.now.fields.now (reads may) names.now.scope.now n (tree_of e.now)) (may_be_control names.now.fields.now names.now.scope.now (tree_of e.now)) n (tree_of e.now) }
+    ensures tells { Tells result
+        (control_faults names.now.fields.now (reads may) names.now.scope.now n (tree_of e.now))
+        (may_be_control names.now.fields.now names.now.scope.now (tree_of e.now)) n
+        (tree_of e.now) }
     ensures variables { Varies result (tree_of e.now) }
 {
     match e {
@@ -211,7 +237,10 @@ fn both(left: Tested, right: Tested) -> Tested
 /// The test of an expression that stands where a condition is asked.
 pub fn test_condition(names: &Names, may: Reads, n: usize, e: &SourceExpr) -> Tested
     requires { n + width (tree_of e.now) ≤ most_tokens }
-    ensures { Tells result (condition_faults names.now.fields.now (reads may) names.now.scope.now n (tree_of e.now)) (may_be_condition names.now.fields.now names.now.scope.now (tree_of e.now)) n (tree_of e.now) }
+    ensures { Tells result
+        (condition_faults names.now.fields.now (reads may) names.now.scope.now n (tree_of e.now))
+        (may_be_condition names.now.fields.now names.now.scope.now (tree_of e.now)) n
+        (tree_of e.now) }
 {
     match e {
         SourceExpr::Truth(_) => fitting(Charge::none(), n + 1, true),

@@ -5,7 +5,9 @@ ghost use Rattle.text_expressions.specs.Views.{tree_of};
 ghost use Rattle.rules_names.specs.Faults.{charged};
 ghost use Rattle.rules_names.specs.Names.{named_in, sort_of};
 ghost use Rattle.rules_names.specs.Tests.{Tells, most_tokens};
-ghost use Rattle.rules_names.specs.ExpressionRules.{width, closed_width, is_arithmetic, is_quotient, is_buffer, suits, may_be_data, data_faults, read_faults};
+ghost use Rattle.rules_names.specs.ExpressionRules.{width, closed_width, is_arithmetic};
+ghost use Rattle.rules_names.specs.ExpressionRules.{is_quotient, is_buffer, suits, may_be_data};
+ghost use Rattle.rules_names.specs.ExpressionRules.{data_faults, read_faults};
 
 use crate::control::{enclosed, named, negated, test_controls, test_wrong_form};
 use crate::fault::Charge;
@@ -79,7 +81,10 @@ fn test_select(
     d: &SourceExpr,
 ) -> Tested
     requires { n + width (select (tree_of a.now) (tree_of b.now) (tree_of c.now) (tree_of d.now)) ≤ most_tokens }
-    ensures { Tells result (data_faults names.now.fields.now names.now.scope.now n (select (tree_of a.now) (tree_of b.now) (tree_of c.now) (tree_of d.now))) true n (select (tree_of a.now) (tree_of b.now) (tree_of c.now) (tree_of d.now)) }
+    ensures { Tells result
+        (data_faults names.now.fields.now names.now.scope.now n
+        (select (tree_of a.now) (tree_of b.now) (tree_of c.now) (tree_of d.now))) true n
+        (select (tree_of a.now) (tree_of b.now) (tree_of c.now) (tree_of d.now)) }
 {
     let first = test_data(names, n + 2, a);
     let second = test_data(names, first.end + 1, b);
@@ -93,7 +98,9 @@ fn test_select(
 #[cycle(data)]
 pub fn test_data(names: &Names, n: usize, e: &SourceExpr) -> Tested
     requires { n + width (tree_of e.now) ≤ most_tokens }
-    ensures { Tells result (data_faults names.now.fields.now names.now.scope.now n (tree_of e.now)) (may_be_data names.now.fields.now names.now.scope.now (tree_of e.now)) n (tree_of e.now) }
+    ensures { Tells result
+        (data_faults names.now.fields.now names.now.scope.now n (tree_of e.now))
+        (may_be_data names.now.fields.now names.now.scope.now (tree_of e.now)) n (tree_of e.now) }
 {
     match e {
         SourceExpr::Int(_) => value(Charge::none(), n + 1),

@@ -1,5 +1,6 @@
 //! What breaks no rule keeps, as a tree, the rules of a well-formed unit. Each law is the contract of a function with nothing to do.
-ghost use Rattle.rules_names.specs.Laws.{ControlsKeepRules, ListsKeepRules, ConditionsKeepRules, DataKeepRules, WindowsKeepRules, ScopesKeepIds};
+ghost use Rattle.rules_names.specs.Laws.{ControlsKeepRules, ListsKeepRules, ConditionsKeepRules};
+ghost use Rattle.rules_names.specs.Laws.{DataKeepRules, WindowsKeepRules, ScopesKeepIds};
 
 /// A control value.
 pub fn controls_keep_rules()

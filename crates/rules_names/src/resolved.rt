@@ -6,7 +6,9 @@ ghost use Rattle.text_expressions.specs.Expression.{binary, select};
 ghost use Rattle.text_expressions.specs.Views.{tree_of};
 ghost use Rattle.exo_reader.specs.Views.{plain_coordinate};
 ghost use Rattle.rules_names.specs.Names.{id_in, field_in};
-ghost use Rattle.rules_names.specs.Resolved.{field_number, divisor_of, joined, compared, joined_conditions, joined_data, truth_of, control_of, controls_of, condition_of, datum_of};
+ghost use Rattle.rules_names.specs.Resolved.{field_number, divisor_of, joined, compared};
+ghost use Rattle.rules_names.specs.Resolved.{joined_conditions, joined_data, truth_of, control_of};
+ghost use Rattle.rules_names.specs.Resolved.{controls_of, condition_of, datum_of};
 ghost use Rattle.rules_names.specs.WindowRules.{coordinate_of, coordinates_of};
 
 use crate::tested::{Names, joins_conditions as is_joint};
@@ -81,7 +83,10 @@ fn arithmetic_of(
     l: &SourceExpr,
     r: &SourceExpr,
 ) -> Result<Ctrl, AllocError>
-    ensures { IfOk result (λ c. control c ≡ control_of names.now.fields.now names.now.scope.now (binary operator (tree_of l.now) (tree_of r.now))) }
+    ensures { IfOk result
+        (λ c. control c
+        ≡ control_of names.now.fields.now names.now.scope.now
+        (binary operator (tree_of l.now) (tree_of r.now))) }
 {
     let left = boxed_control(alloc, names, l)?;
     let right = boxed_control(alloc, names, r)?;
@@ -130,7 +135,10 @@ fn comparison_of(
     l: &SourceExpr,
     r: &SourceExpr,
 ) -> Result<Cond, AllocError>
-    ensures { IfOk result (λ c. condition c ≡ compared operator (control_of names.now.fields.now names.now.scope.now (tree_of l.now)) (control_of names.now.fields.now names.now.scope.now (tree_of r.now))) }
+    ensures { IfOk result
+        (λ c. condition c
+        ≡ compared operator (control_of names.now.fields.now names.now.scope.now (tree_of l.now))
+        (control_of names.now.fields.now names.now.scope.now (tree_of r.now))) }
 {
     let left = control_of(alloc, names, l)?;
     let right = control_of(alloc, names, r)?;
@@ -177,7 +185,11 @@ fn junction_of(
     l: &SourceExpr,
     r: &SourceExpr,
 ) -> Result<Cond, AllocError>
-    ensures { IfOk result (λ c. condition c ≡ joined_conditions operator (condition_of names.now.fields.now names.now.scope.now (tree_of l.now)) (condition_of names.now.fields.now names.now.scope.now (tree_of r.now))) }
+    ensures { IfOk result
+        (λ c. condition c
+        ≡ joined_conditions operator
+        (condition_of names.now.fields.now names.now.scope.now (tree_of l.now))
+        (condition_of names.now.fields.now names.now.scope.now (tree_of r.now))) }
 {
     let left = boxed_condition(alloc, names, l)?;
     let right = boxed_condition(alloc, names, r)?;
@@ -244,7 +256,10 @@ fn choice_of(
     c: &SourceExpr,
     d: &SourceExpr,
 ) -> Result<DataExpr, AllocError>
-    ensures { IfOk result (λ e. datum e ≡ datum_of names.now.fields.now names.now.scope.now (select (tree_of a.now) (tree_of b.now) (tree_of c.now) (tree_of d.now))) }
+    ensures { IfOk result
+        (λ e. datum e
+        ≡ datum_of names.now.fields.now names.now.scope.now
+        (select (tree_of a.now) (tree_of b.now) (tree_of c.now) (tree_of d.now))) }
 {
     let first = boxed_data(alloc, names, a)?;
     let second = boxed_data(alloc, names, b)?;
@@ -262,7 +277,10 @@ fn operation_of(
     l: &SourceExpr,
     r: &SourceExpr,
 ) -> Result<DataExpr, AllocError>
-    ensures { IfOk result (λ d. datum d ≡ datum_of names.now.fields.now names.now.scope.now (binary operator (tree_of l.now) (tree_of r.now))) }
+    ensures { IfOk result
+        (λ d. datum d
+        ≡ datum_of names.now.fields.now names.now.scope.now
+        (binary operator (tree_of l.now) (tree_of r.now))) }
 {
     let left = boxed_data(alloc, names, l)?;
     let right = boxed_data(alloc, names, r)?;

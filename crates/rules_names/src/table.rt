@@ -41,7 +41,10 @@ impl<'a> FieldTable<'a> {
     pub fn push(&mut self, config: &'a str, name: &'a str, kind: Kind) -> Result<(), AllocError>
         requires new { field_in self.old config.now name.now ≡ None }
         requires few { length self.old < 4294967295 }
-        ensures pushed { OnOk result (self.new ≡ self.old ++ record { config = config.now; name = name.now; kind = control_kind kind } ∷ []) }
+        ensures pushed { OnOk result
+            (self.new
+            ≡ self.old
+            ++ record { config = config.now; name = name.now; kind = control_kind kind } ∷ []) }
         ensures unchanged { OnErr result (self.new ≡ self.old) }
     {
         self.table.insert((config, name), kind)?;

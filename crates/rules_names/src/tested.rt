@@ -6,7 +6,10 @@ ghost use Rattle.text_expressions.specs.Views.{tree_of};
 ghost use Rattle.rules_names.specs.Faults.{charged};
 ghost use Rattle.rules_names.specs.Tables.{found_field};
 ghost use Rattle.rules_names.specs.Tests.{sort_seen};
-ghost use Rattle.rules_names.specs.ExpressionRules.{is_buffer, is_arithmetic, joins_conditions, is_divisor, suits, name_faults, rank_faults, dimension_faults, field_suits, field_faults, no_such_field, affine_faults};
+ghost use Rattle.rules_names.specs.ExpressionRules.{is_buffer, is_arithmetic, joins_conditions};
+ghost use Rattle.rules_names.specs.ExpressionRules.{is_divisor, suits, name_faults, rank_faults};
+ghost use Rattle.rules_names.specs.ExpressionRules.{dimension_faults, field_suits, field_faults};
+ghost use Rattle.rules_names.specs.ExpressionRules.{no_such_field, affine_faults};
 
 use crate::error::TypeKind;
 use crate::fault::Charge;

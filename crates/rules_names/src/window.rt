@@ -58,7 +58,11 @@ pub fn test_window(
     list: &[SourceCoord],
 ) -> (Charge, usize)
     requires { n + 2 + coordinates_width (map plain_coordinate list.now) ≤ most_tokens }
-    ensures charge { (test : Option units.Sort → Bool) → test (sort_of (named_in names.now.scope.now name.now)) ≡ fits → result.0 ≡ charged (window_faults names.now.fields.now test names.now.scope.now n name.now (map plain_coordinate list.now)) }
+    ensures charge { (test : Option units.Sort → Bool)
+        → test (sort_of (named_in names.now.scope.now name.now)) ≡ fits
+        → result.0
+        ≡ charged (window_faults names.now.fields.now test names.now.scope.now n name.now
+        (map plain_coordinate list.now)) }
     ensures end { result.1 ≡ n + 2 + coordinates_width (map plain_coordinate list.now) }
 {
     let sort = names.scope.sort(name);

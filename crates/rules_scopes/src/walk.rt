@@ -8,7 +8,8 @@ ghost use Rattle.exo_tree.specs.PlainStatement.{statement};
 ghost use Rattle.exo_tree.specs.PlainUnit.{program};
 ghost use Rattle.exo_meaning.specs.Units.{is_new, IsUnit};
 ghost use Rattle.rules_scopes.specs.PlaceScope as place;
-ghost use Rattle.rules_scopes.specs.PlaceScope.{naming, naming_params, naming_after, naming_inside, before, scope_behind, scope_along, scope_in};
+ghost use Rattle.rules_scopes.specs.PlaceScope.{naming, naming_params, naming_after, naming_inside};
+ghost use Rattle.rules_scopes.specs.PlaceScope.{before, scope_behind, scope_along, scope_in};
 ghost use Rattle.rules_scopes.specs.NewNames.{params_are_new, binds_new, step_binds_new};
 
 use exo_tree::{Binder, Block, Kind, Params, Path, Proc, ProcId, Step, Stmt, Unit};

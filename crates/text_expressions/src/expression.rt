@@ -4,7 +4,11 @@ ghost use Rattle.std.specs.Prelude.{◌≡◌, ◌≢◌, ◌≤◌, ◌<◌, �
 ghost use Rattle.text_phrases.specs.Phrase.{first, Taken, Refused};
 ghost use Rattle.text_phrases.specs.Answers.{Reads};
 ghost use Rattle.text_front.specs.Values.{IsShortName};
-ghost use Rattle.text_expressions.specs.Expression.{Tree, operand, relu, select, negative, parens, access, binary, trees, HasPlace, ended_by, FollowsOperand, level_of, joins, joins_by_sign, joins_by_word, sign, NoSign, under, control, datum, indices, most_depth};
+ghost use Rattle.text_expressions.specs.Expression.{Tree, operand, relu, select, negative, parens};
+ghost use Rattle.text_expressions.specs.Expression.{access, binary, trees, HasPlace, ended_by};
+ghost use Rattle.text_expressions.specs.Expression.{FollowsOperand, level_of, joins, joins_by_sign};
+ghost use Rattle.text_expressions.specs.Expression.{joins_by_word, sign, NoSign, under, control};
+ghost use Rattle.text_expressions.specs.Expression.{datum, indices, most_depth};
 ghost use Rattle.text_expressions.specs.Views.{tree_of, IsMeasured, AreMeasured, IsLeaf};
 ghost use Rattle.text_expressions.specs.Chain.{Begun};
 ghost use Rattle.text_expressions.specs.Rooms.{IsFull, Right};
@@ -128,7 +132,12 @@ impl Room {
     /// taken. Else the limit that the token passes.
     fn below(self, beside: u32, taken: u32, left: usize) -> Result<Room, Refusal>
         requires { 1 ≤ beside }
-        ensures { MatchResult result (λ inner. (inner ≡ under taken self) × (beside < self.depth) × (taken < self.nodes) × HasPlace inner) (λ e. IsFull self beside taken left e) }
+        ensures { MatchResult result
+            (λ inner. (inner ≡ under taken self)
+            × (beside < self.depth)
+            × (taken < self.nodes)
+            × HasPlace inner)
+            (λ e. IsFull self beside taken left e) }
     {
         if self.depth <= beside {
             return Err(Refusal::TooDeep(left));
@@ -144,7 +153,9 @@ impl Room {
 fn leaf(alloc: Global, tree: SourceExpr, rest: &[Token]) -> Result<(Measured, &[Token]), Refusal>
     requires { IsLeaf (tree_of tree) }
     ensures measured { IfOk result (λ x. IsMeasured x.0) }
-    ensures reads { (room : Room) (tokens : List Token) → Taken (operand 5 room) tokens (tree_of tree) rest.now → Reads (operand 5 room) tokens (λ x. tree_of x.0.tree.value) (λ x. x.1.now) result }
+    ensures reads { (room : Room) (tokens : List Token)
+        → Taken (operand 5 room) tokens (tree_of tree) rest.now
+        → Reads (operand 5 room) tokens (λ x. tree_of x.0.tree.value) (λ x. x.1.now) result }
 {
     let measured = Measured {
         tree: Box::new(alloc, tree)?,
@@ -158,7 +169,9 @@ fn leaf(alloc: Global, tree: SourceExpr, rest: &[Token]) -> Result<(Measured, &[
 fn right_room(left: &Measured, room: Room, remaining: usize) -> Result<Room, Refusal>
     requires place { HasPlace room }
     requires measured { IsMeasured left.now }
-    ensures { MatchResult result (λ inner. Right room inner (tree_of left.now.tree.value) × HasPlace inner) (λ e. IsFull room left.now.depth (left.now.nodes + 1) remaining e) }
+    ensures { MatchResult result
+        (λ inner. Right room inner (tree_of left.now.tree.value) × HasPlace inner)
+        (λ e. IsFull room left.now.depth (left.now.nodes + 1) remaining e) }
 {
     if room.depth <= left.depth {
         return Err(Refusal::TooDeep(remaining));
@@ -179,7 +192,10 @@ fn joined(
     requires measured { IsMeasured left × IsMeasured right }
     requires shallow { (left.depth < 4294967295) × (right.depth < 4294967295) }
     requires few { left.nodes + right.nodes < 4294967295 }
-    ensures { IfOk result (λ m. (tree_of m.tree.value ≡ binary operator (tree_of left.tree.value) (tree_of right.tree.value)) × IsMeasured m) }
+    ensures { IfOk result
+        (λ m. (tree_of m.tree.value
+        ≡ binary operator (tree_of left.tree.value) (tree_of right.tree.value))
+        × IsMeasured m) }
 {
     let depth = left.depth.max(right.depth) + 1;
     let nodes = left.nodes + right.nodes + 1;
@@ -228,7 +244,11 @@ fn selected(
     requires measured { IsMeasured a × IsMeasured b × IsMeasured c × IsMeasured d }
     requires shallow { (a.depth < 4294967295) × (b.depth < 4294967295) × (c.depth < 4294967295) × (d.depth < 4294967295) }
     requires few { a.nodes + b.nodes + c.nodes + d.nodes < 4294967295 }
-    ensures { IfOk result (λ m. (tree_of m.tree.value ≡ select (tree_of a.tree.value) (tree_of b.tree.value) (tree_of c.tree.value) (tree_of d.tree.value)) × IsMeasured m) }
+    ensures { IfOk result
+        (λ m. (tree_of m.tree.value
+        ≡ select (tree_of a.tree.value) (tree_of b.tree.value) (tree_of c.tree.value)
+        (tree_of d.tree.value))
+        × IsMeasured m) }
 {
     let depth = a.depth.max(b.depth).max(c.depth.max(d.depth)) + 1;
     let nodes = a.nodes + b.nodes + c.nodes + d.nodes + 1;
@@ -322,7 +342,9 @@ pub fn read_from(
     requires measured { IsMeasured atom }
     ensures shorter { IfOk result (λ x. length x.1.now ≤ length rest.now) }
     ensures measured { IfOk result (λ x. IsMeasured x.0) }
-    ensures reads { (tokens : List Token) → Taken (operand 5 room) tokens (tree_of atom.tree.value) rest.now → Reads (operand level room) tokens (λ x. tree_of x.0.tree.value) (λ x. x.1.now) result }
+    ensures reads { (tokens : List Token)
+        → Taken (operand 5 room) tokens (tree_of atom.tree.value) rest.now
+        → Reads (operand level room) tokens (λ x. tree_of x.0.tree.value) (λ x. x.1.now) result }
 {
     if level == 5 {
         return Ok((atom, rest));
@@ -347,7 +369,9 @@ fn read_comparison(
     requires measured { IsMeasured left }
     ensures shorter { IfOk result (λ x. length x.1.now ≤ length rest.now) }
     ensures measured { IfOk result (λ x. IsMeasured x.0) }
-    ensures reads { (tokens : List Token) → Taken (operand 3 room) tokens (tree_of left.tree.value) rest.now → Reads (operand 2 room) tokens (λ x. tree_of x.0.tree.value) (λ x. x.1.now) result }
+    ensures reads { (tokens : List Token)
+        → Taken (operand 3 room) tokens (tree_of left.tree.value) rest.now
+        → Reads (operand 2 room) tokens (λ x. tree_of x.0.tree.value) (λ x. x.1.now) result }
 {
     let Some((operator, after)) = operator_at(rest, 2) else {
         return Ok((left, rest));
@@ -373,7 +397,9 @@ fn read_chain(
     requires measured { IsMeasured leftmost }
     ensures shorter { IfOk result (λ x. length x.1.now ≤ length tail.now) }
     ensures measured { IfOk result (λ x. IsMeasured x.0) }
-    ensures reads { (tokens : List Token) → Begun level room tokens (tree_of leftmost.tree.value) tail.now → Reads (operand level room) tokens (λ x. tree_of x.0.tree.value) (λ x. x.1.now) result }
+    ensures reads { (tokens : List Token)
+        → Begun level room tokens (tree_of leftmost.tree.value) tail.now
+        → Reads (operand level room) tokens (λ x. tree_of x.0.tree.value) (λ x. x.1.now) result }
 {
     let mut left = leftmost;
     let mut rest = tail;
@@ -605,7 +631,8 @@ fn read_field(
     requires place { HasPlace room }
     requires short { IsShortName name }
     ensures measured { IfOk result (λ x. IsMeasured x.0) }
-    ensures reads { Reads (operand 5 room) (Token.Name name ∷ Token.Sign Sign.Dot ∷ rest.now) (λ x. tree_of x.0.tree.value) (λ x. x.1.now) result }
+    ensures reads { Reads (operand 5 room) (Token.Name name ∷ Token.Sign Sign.Dot ∷ rest.now)
+        (λ x. tree_of x.0.tree.value) (λ x. x.1.now) result }
 {
     let (field, rest) = read_name(rest)?;
     leaf(alloc, SourceExpr::Field(name, field), rest)

@@ -52,7 +52,10 @@ pub fn behind(tokens: &[Token], fixed: Fixed) -> Option<&[Token]>
 
 /// The tokens behind this one.
 pub fn expect(tokens: &[Token], fixed: Fixed) -> Result<&[Token], Refusal>
-    ensures { MatchResult result (λ rest. tokens.now ≡ token_of fixed ∷ rest.now) (λ e. (e ≡ Refusal.Syntax (length tokens.now)) × (first tokens.now ≡ Some (token_of fixed) → ⊥)) }
+    ensures { MatchResult result
+        (λ rest. tokens.now ≡ token_of fixed ∷ rest.now)
+        (λ e. (e ≡ Refusal.Syntax (length tokens.now))
+        × (first tokens.now ≡ Some (token_of fixed) → ⊥)) }
 {
     match behind(tokens, fixed) {
         Some(rest) => Ok(rest),

@@ -2,7 +2,9 @@
 
 ghost use Rattle.std.specs.Prelude.{◌≡◌, ◌+◌, ◌<◌, ◌≤◌, ◌++◌, length, replicate, IfOk};
 ghost use Rattle.std.specs.Result.{OnOk};
-ghost use Rattle.text_lexer.specs.Layout.{at, put, is_foreign, is_import, indentation, blocks_at, brackets_behind, brackets_after, with_end, text_end, laid};
+ghost use Rattle.text_lexer.specs.Layout.{at, put, is_foreign, is_import, indentation, blocks_at};
+ghost use Rattle.text_lexer.specs.Layout.{brackets_behind, brackets_after, with_end, text_end};
+ghost use Rattle.text_lexer.specs.Layout.{laid};
 
 use crate::blocks::Blocks;
 use crate::line::line_tokens;

@@ -3,7 +3,8 @@
 ghost use Rattle.std.specs.Prelude.{◌≡◌, ◌+◌, ◌≤◌, ◌++◌, [], ◌∷◌, length, map, take, true, false, IfOk, MatchOption};
 ghost use Rattle.std.specs.Result.{OnOk};
 ghost use Rattle.text_lexer.specs.Widths.{least_widths};
-ghost use Rattle.text_lexer.specs.Layout.{lines, line_end_width, end_place, up_to_fault, is_sound, layout, lexed, line_lexed, place_of, token_of};
+ghost use Rattle.text_lexer.specs.Layout.{lines, line_end_width, end_place, up_to_fault, is_sound};
+ghost use Rattle.text_lexer.specs.Layout.{layout, lexed, line_lexed, place_of, token_of};
 
 use crate::blocks::Blocks;
 use crate::layout::{end_text, lay_line};
@@ -38,7 +39,8 @@ fn line_end_width(text: &[u8]) -> usize
 /// The first line of a text, and what stands behind its end, if it has one.
 fn first_line(text: &[u8]) -> (&[u8], Option<&[u8]>)
     ensures value { MatchOption result.1 (lines text.now ≡ result.0.now ∷ []) (λ rest. lines text.now ≡ result.0.now ∷ lines rest.now) }
-    ensures shorter { MatchOption result.1 (length result.0.now ≤ length text.now) (λ rest. length result.0.now + length rest.now + 1 ≤ length text.now) }
+    ensures shorter { MatchOption result.1 (length result.0.now ≤ length text.now)
+        (λ rest. length result.0.now + length rest.now + 1 ≤ length text.now) }
 {
     let mut count = 0;
     while count < text.len() && line_end_width(&text[count..]) == 0 {
@@ -73,7 +75,9 @@ fn end_place(text: &[u8]) -> Place
 
 /// The index of the first fault.
 fn fault_at(tokens: &[Placed]) -> Option<usize>
-    ensures value { MatchOption result ((is_sound tokens.now ≡ true) × (up_to_fault tokens.now ≡ tokens.now)) (λ k. (is_sound tokens.now ≡ false) × (up_to_fault tokens.now ≡ take (k + 1) tokens.now)) }
+    ensures value { MatchOption result
+        ((is_sound tokens.now ≡ true) × (up_to_fault tokens.now ≡ tokens.now))
+        (λ k. (is_sound tokens.now ≡ false) × (up_to_fault tokens.now ≡ take (k + 1) tokens.now)) }
     ensures bound { MatchOption result (0 ≤ length tokens.now) (λ k. k + 1 ≤ length tokens.now) }
 {
     for (k, placed) in tokens.iter().enumerate() {
@@ -125,7 +129,9 @@ fn give(lexed: &mut Lexed, placed: Vec<Placed>) -> Result<(), AllocError>
 /// The tokens of a text whose end has this place, up to a fault, and their places.
 fn lay_text(alloc: Global, text: &[u8], end: Place) -> Result<Lexed, AllocError>
     requires { length text.now ≤ 0x100000 }
-    ensures { IfOk result (λ l. (l.tokens.items ≡ map token_of (up_to_fault (layout end 1 [] 0 (lines text.now)))) × (l.places.items ≡ map place_of (up_to_fault (layout end 1 [] 0 (lines text.now))))) }
+    ensures { IfOk result
+        (λ l. (l.tokens.items ≡ map token_of (up_to_fault (layout end 1 [] 0 (lines text.now))))
+        × (l.places.items ≡ map place_of (up_to_fault (layout end 1 [] 0 (lines text.now))))) }
 {
     let mut lexed = room_for(alloc, text.len() / COMMON_WIDTH)?;
     let mut open_blocks = Blocks::new(alloc);

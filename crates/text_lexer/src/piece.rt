@@ -3,7 +3,9 @@
 ghost use Rattle.std.specs.Prelude.{◌≡◌, ◌+◌, ◌≤◌, ◌<◌, length, IfOk, EachIndex, slice_index, take_while};
 ghost use Rattle.std.specs.Char.{is_ascii_digit};
 ghost use Rattle.text_lexer.specs.Quoted.{quoted};
-ghost use Rattle.text_lexer.specs.Piece.{word_of, decorator_of, sign_of, sign_with_equals, literal, name_token, name_piece, decorator_piece, literal_piece, string_piece, lone_piece, sign_piece, piece_of};
+ghost use Rattle.text_lexer.specs.Piece.{word_of, decorator_of, sign_of, sign_with_equals, literal};
+ghost use Rattle.text_lexer.specs.Piece.{name_token, name_piece, decorator_piece, literal_piece};
+ghost use Rattle.text_lexer.specs.Piece.{string_piece, lone_piece, sign_piece, piece_of};
 
 use crate::bytes::{begins_name, digits_at, is_printable, is_quote, name_at};
 use crate::quoted::{Ending, read_quoted};

@@ -2,7 +2,10 @@
 ghost use Rattle.std.specs.Prelude.{◌≡◌, ◌++◌, map, OnOk, string_bytes};
 ghost use Rattle.exo_tree.specs.Tree as tree;
 ghost use Rattle.exo_tree.specs.PlainControl.{control, condition, coordinate};
-ghost use Rattle.text_show.specs.ControlText.{precedence_of, in_place, control_text, coord_text, indices_text, access_text, window_text, condition_precedence, condition_in_place, condition_text};
+ghost use Rattle.text_show.specs.ControlText.{precedence_of, in_place, control_text, coord_text};
+ghost use Rattle.text_show.specs.ControlText.{indices_text, access_text, window_text};
+ghost use Rattle.text_show.specs.ControlText.{condition_precedence, condition_in_place};
+ghost use Rattle.text_show.specs.ControlText.{condition_text};
 ghost use Rattle.text_show.specs.Layout.{between};
 ghost use Rattle.text_show.specs.Seen.{words_in};
 
@@ -25,7 +28,10 @@ fn precedence_of(e: &Ctrl) -> u8
 /// Appends an expression as an operand: one that binds more loosely than its place asks has parentheses.
 #[cycle(control)]
 fn put_operand(out: &mut String, words: &Words, e: &Ctrl, place: u8) -> Result<(), AllocError>
-    ensures { OnOk result (string_bytes out.new ≡ string_bytes out.old ++ in_place place (control e.now) (control_text (words_in words.now) (control e.now))) }
+    ensures { OnOk result
+        (string_bytes out.new
+        ≡ string_bytes out.old
+        ++ in_place place (control e.now) (control_text (words_in words.now) (control e.now))) }
 {
     if precedence_of(e) < place {
         out.push_str("(")?;
@@ -104,7 +110,11 @@ fn condition_precedence(c: &Cond) -> u8
 /// Appends a condition as an operand: one that binds more loosely than its place asks has parentheses.
 #[cycle(condition)]
 fn put_part(out: &mut String, words: &Words, c: &Cond, place: u8) -> Result<(), AllocError>
-    ensures { OnOk result (string_bytes out.new ≡ string_bytes out.old ++ condition_in_place place (condition c.now) (condition_text (words_in words.now) (condition c.now))) }
+    ensures { OnOk result
+        (string_bytes out.new
+        ≡ string_bytes out.old
+        ++ condition_in_place place (condition c.now)
+        (condition_text (words_in words.now) (condition c.now))) }
 {
     if condition_precedence(c) < place {
         out.push_str("(")?;
@@ -123,7 +133,11 @@ fn put_comparison(
     sign: &str,
     b: &Ctrl,
 ) -> Result<(), AllocError>
-    ensures { OnOk result (string_bytes out.new ≡ string_bytes out.old ++ between (control_text (words_in words.now) (control a.now)) sign.now (control_text (words_in words.now) (control b.now))) }
+    ensures { OnOk result
+        (string_bytes out.new
+        ≡ string_bytes out.old
+        ++ between (control_text (words_in words.now) (control a.now)) sign.now
+        (control_text (words_in words.now) (control b.now))) }
 {
     put_control(out, words, a)?;
     out.push_str(" ")?;

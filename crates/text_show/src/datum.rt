@@ -24,7 +24,10 @@ fn datum_precedence(e: &DataExpr) -> u8
 /// Appends an expression as an operand: one that binds more loosely than its place asks has parentheses.
 #[cycle(datum)]
 fn put_operand(out: &mut String, words: &Words, e: &DataExpr, place: u8) -> Result<(), AllocError>
-    ensures { OnOk result (string_bytes out.new ≡ string_bytes out.old ++ datum_in_place place (datum e.now) (datum_text (words_in words.now) (datum e.now))) }
+    ensures { OnOk result
+        (string_bytes out.new
+        ≡ string_bytes out.old
+        ++ datum_in_place place (datum e.now) (datum_text (words_in words.now) (datum e.now))) }
 {
     if datum_precedence(e) < place {
         out.push_str("(")?;

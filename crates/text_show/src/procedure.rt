@@ -111,7 +111,10 @@ fn put_assert(out: &mut String, words: &Words, c: &Cond) -> Result<(), AllocErro
 
 /// Appends the lines of assertions.
 fn put_asserts(out: &mut String, words: &Words, asserts: &[Cond]) -> Result<(), AllocError>
-    ensures { OnOk result (string_bytes out.new ≡ string_bytes out.old ++ flat_map (assert_text (words_in words.now)) (map condition asserts.now)) }
+    ensures { OnOk result
+        (string_bytes out.new
+        ≡ string_bytes out.old
+        ++ flat_map (assert_text (words_in words.now)) (map condition asserts.now)) }
 {
     for c in asserts {
         put_assert(out, words, c)?;

@@ -76,7 +76,11 @@ fn put_alloc(
     dims: &Indices,
     m: MemId,
 ) -> Result<(), AllocError>
-    ensures { OnOk result (string_bytes out.new ≡ string_bytes out.old ++ head_text (words_in words.now) (tree.Alloc (binding b.now) (cell_type cell) dims.now m.0)) }
+    ensures { OnOk result
+        (string_bytes out.new
+        ≡ string_bytes out.old
+        ++ head_text (words_in words.now)
+        (tree.Alloc (binding b.now) (cell_type cell) dims.now m.0)) }
 {
     out.push_str(b.name.as_str())?;
     out.push_str(" : ")?;
@@ -92,7 +96,11 @@ fn put_loop(
     lo: &Ctrl,
     hi: &Ctrl,
 ) -> Result<(), AllocError>
-    ensures { OnOk result (string_bytes out.new ≡ string_bytes out.old ++ loop_text i.now.name (control_text (words_in words.now) (control lo.now)) (control_text (words_in words.now) (control hi.now))) }
+    ensures { OnOk result
+        (string_bytes out.new
+        ≡ string_bytes out.old
+        ++ loop_text i.now.name (control_text (words_in words.now) (control lo.now))
+        (control_text (words_in words.now) (control hi.now))) }
 {
     out.push_str("for ")?;
     out.push_str(i.name.as_str())?;
@@ -175,7 +183,11 @@ fn put_other(
     inner: &str,
     other: &Block,
 ) -> Result<(), AllocError>
-    ensures { OnOk result (string_bytes out.new ≡ string_bytes out.old ++ or_else indent.now (block other.now) (block_text (words_in words.now) inner.now (block other.now))) }
+    ensures { OnOk result
+        (string_bytes out.new
+        ≡ string_bytes out.old
+        ++ or_else indent.now (block other.now)
+        (block_text (words_in words.now) inner.now (block other.now))) }
 {
     if other.len() == 0 {
         return Ok(());

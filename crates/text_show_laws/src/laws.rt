@@ -1,6 +1,8 @@
 //! What the shown text of a procedure is read as, each law the contract of a function with nothing to do.
 
-ghost use Rattle.text_show_laws.specs.Laws.{ControlsAreSpelled, ConditionsAreSpelled, DataAreSpelled, ProceduresAreSpelled, WrittenFits, ShownIsRead};
+ghost use Rattle.text_show_laws.specs.Laws.{ControlsAreSpelled, ConditionsAreSpelled};
+ghost use Rattle.text_show_laws.specs.Laws.{DataAreSpelled, ProceduresAreSpelled, WrittenFits};
+ghost use Rattle.text_show_laws.specs.Laws.{ShownIsRead};
 ghost use Rattle.text_show_laws.specs.Again.{ShownIsTheSame};
 ghost use Rattle.text_show_laws.specs.Below.{ShownIsReadBelow, ShownStandsAgain};
 ghost use Rattle.text_show_laws.specs.Instance.{NamesInstance, VersionsInstance};

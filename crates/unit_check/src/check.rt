@@ -84,10 +84,17 @@ fn check_procedure<R: Threads + Sync, G: Gate>(
     requires unit { IsUnit (program unit.now) }
     requires table { IsTable (length (program unit.now).fields) (unit_writes (program unit.now).procedures) writes.now }
     requires modes { table_says modes.now ≡ modes_of (program unit.now) }
-    ensures exact { (q : Procedure) → slice_get (program unit.now).procedures p.0 ≡ Some q → Answers result p.0 (cause_of (program unit.now) q) }
-    ensures count { (q : Procedure) → slice_get (program unit.now).procedures p.0 ≡ Some q → IfOk result (λ n. n ≡ length (obligations_of (program unit.now) q)) }
+    ensures exact { (q : Procedure)
+        → slice_get (program unit.now).procedures p.0 ≡ Some q
+        → Answers result p.0 (cause_of (program unit.now) q) }
+    ensures count { (q : Procedure)
+        → slice_get (program unit.now).procedures p.0 ≡ Some q
+        → IfOk result (λ n. n ≡ length (obligations_of (program unit.now) q)) }
     ensures few { IfOk result (λ n. n ≤ 65536) }
-    ensures shown { (q : Procedure) → slice_get (program unit.now).procedures p.0 ≡ Some q → IfOk result (λ n. All (λ o. HasNoIntegerPoint o.system) (obligations_of (program unit.now) q)) }
+    ensures shown { (q : Procedure)
+        → slice_get (program unit.now).procedures p.0 ≡ Some q
+        → IfOk result
+        (λ n. All (λ o. HasNoIntegerPoint o.system) (obligations_of (program unit.now) q)) }
 {
     let obs = match obligations_with_tables(alloc, unit, writes, modes, p) {
         Ok(list) => list,

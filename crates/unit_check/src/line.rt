@@ -133,7 +133,9 @@ fn line_at(unit: &Unit, p: ProcId, path: &Path) -> u32
 /// The text line that a refusal names: that of the statement that owes what is not shown, and that of the procedure's `def`
 /// for what a parameter owes and for every `Check`.
 pub fn line_of(unit: &Unit, refused: &UnitRefused) -> u32
-    ensures { result ≡ line_in (slice_get (program unit.now).procedures refused.now.proc.0) (slice_get unit.now.lines refused.now.proc.0) refused.now.place }
+    ensures { result
+        ≡ line_in (slice_get (program unit.now).procedures refused.now.proc.0)
+        (slice_get unit.now.lines refused.now.proc.0) refused.now.place }
 {
     line_at(unit, refused.proc, &refused.place)
 }
