@@ -114,9 +114,7 @@ impl Stmt {
 
 /// The statement at a path within a block.
 fn below<'a>(b: &'a Block, path: &[Step]) -> Option<&'a Stmt>
-    ensures { option_map statement (option_copied result)
-        ≡ option_and_then (λ o. first_of o.piece)
-        (opened_in 1 (map step_taken path.now) (block b.now)) }
+    ensures { option_map statement (option_copied result) ≡ option_and_then (λ o. first_of o.piece) (opened_in 1 (map step_taken path.now) (block b.now)) }
 {
     let (step, rest) = path.split_first()?;
     let s = b.get(step.index as usize)?;
