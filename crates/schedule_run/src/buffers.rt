@@ -3,8 +3,6 @@ ghost use Rattle.std.specs.Prelude.{◌≡◌, true, IfOk, map};
 ghost use Rattle.exo_tree.specs.PlainControl.{control};
 ghost use Rattle.exo_tree.specs.PlainProcedure.{procedure};
 ghost use Rattle.exo_tree.specs.PlainUnit.{program};
-ghost use Rattle.exo_modes.specs.Marks.{modes_of};
-ghost use Rattle.exo_modes.specs.Seen.{table_says};
 ghost use Rattle.text_expressions.specs.Views.{tree_of};
 ghost use Rattle.rules_names.specs.Arguments.{is_control_form, knows_fields};
 ghost use Rattle.cursor_patterns.specs.PlainPattern as patterns;
@@ -18,6 +16,7 @@ ghost use Rattle.alloc_laws.specs.Bind.Binding.{bind_rule};
 ghost use Rattle.step_rules.specs.Answer as answer;
 ghost use Rattle.step_rules.specs.Lawful.{IsTarget};
 ghost use Rattle.step_driver.specs.PlainTarget.{target};
+ghost use Rattle.step_driver.specs.Tables.{HasTables};
 ghost use Rattle.buffer_rewrites.specs.PlainForm.{plain_form};
 ghost use Rattle.schedule_calls.specs.PlainRequest.{plain_asked};
 ghost use Rattle.schedule_laws.specs.Operators.Arguments.{control_at, memory_named, part_at};
@@ -52,7 +51,7 @@ pub(crate) fn set_memory_at(
     at: &Asked<'_>,
     name: &Text,
 ) -> Result<Proposal, Why>
-    requires modes { table_says on.now.modes.now ≡ modes_of (program on.now.unit.now) }
+    requires tables { HasTables on.now }
     requires target { IsTarget (target on.now) }
     requires unit { program on.now.unit.now ≡ program s.now.unit }
     requires origins { map origin on.now.origins.now ≡ (versions s.now).origins }
@@ -73,7 +72,7 @@ pub(crate) fn lift_alloc_at(
     s: &Session,
     at: &Asked<'_>,
 ) -> Result<Proposal, Why>
-    requires modes { table_says on.now.modes.now ≡ modes_of (program on.now.unit.now) }
+    requires tables { HasTables on.now }
     requires target { IsTarget (target on.now) }
     requires unit { program on.now.unit.now ≡ program s.now.unit }
     requires origins { map origin on.now.origins.now ≡ (versions s.now).origins }
@@ -97,7 +96,7 @@ fn expanded_by(
     size: &Ctrl,
     point: &Ctrl,
 ) -> Result<Proposal, Why>
-    requires modes { table_says on.now.modes.now ≡ modes_of (program on.now.unit.now) }
+    requires tables { HasTables on.now }
     requires target { IsTarget (target on.now) }
     ensures { Makes plain_proposal
         (as_tried (answer.proposed (expand_rule (control size.now) (control point.now))
@@ -114,7 +113,7 @@ fn expanded_to(
     size: &Ctrl,
     point: &SourceExpr,
 ) -> Result<Proposal, Why>
-    requires modes { table_says on.now.modes.now ≡ modes_of (program on.now.unit.now) }
+    requires tables { HasTables on.now }
     requires target { IsTarget (target on.now) }
     requires form { is_control_form (tree_of point.now) ≡ true }
     requires known { knows_fields (program on.now.unit.now).fields (tree_of point.now) ≡ true }
@@ -136,7 +135,7 @@ fn expanded(
     size: &SourceExpr,
     point: &SourceExpr,
 ) -> Result<Proposal, Why>
-    requires modes { table_says on.now.modes.now ≡ modes_of (program on.now.unit.now) }
+    requires tables { HasTables on.now }
     requires target { IsTarget (target on.now) }
     requires size_form { is_control_form (tree_of size.now) ≡ true }
     requires point_form { is_control_form (tree_of point.now) ≡ true }
@@ -163,7 +162,7 @@ pub(crate) fn expand_dim_at(
     size: &SourceExpr,
     point: &SourceExpr,
 ) -> Result<Proposal, Why>
-    requires modes { table_says on.now.modes.now ≡ modes_of (program on.now.unit.now) }
+    requires tables { HasTables on.now }
     requires target { IsTarget (target on.now) }
     requires unit { program on.now.unit.now ≡ program s.now.unit }
     requires origins { map origin on.now.origins.now ≡ (versions s.now).origins }
@@ -206,7 +205,7 @@ fn bound(
     part: &ExprPattern,
     name: &Name,
 ) -> Result<Proposal, Why>
-    requires modes { table_says on.now.modes.now ≡ modes_of (program on.now.unit.now) }
+    requires tables { HasTables on.now }
     requires target { IsTarget (target on.now) }
     ensures { Makes plain_proposal
         (as_tried
@@ -232,7 +231,7 @@ pub(crate) fn bind_expr_at(
     part: &ExprPattern,
     name: &Name,
 ) -> Result<Proposal, Why>
-    requires modes { table_says on.now.modes.now ≡ modes_of (program on.now.unit.now) }
+    requires tables { HasTables on.now }
     requires target { IsTarget (target on.now) }
     requires unit { program on.now.unit.now ≡ program s.now.unit }
     requires origins { map origin on.now.origins.now ≡ (versions s.now).origins }

@@ -6,8 +6,6 @@ ghost use Rattle.exo_tree.specs.PlainProcedure.{procedure};
 ghost use Rattle.exo_tree.specs.PlainUnit.{program};
 ghost use Rattle.exo_meaning.specs.Units as units;
 ghost use Rattle.exo_meaning.specs.Units.{IsUnit};
-ghost use Rattle.exo_modes.specs.Marks.{modes_of};
-ghost use Rattle.exo_modes.specs.Seen.{table_says};
 ghost use Rattle.text_expressions.specs.Views.{tree_of};
 ghost use Rattle.rules_names.specs.Arguments.{knows_fields};
 ghost use Rattle.rules_names.specs.Names as names;
@@ -20,6 +18,7 @@ ghost use Rattle.unify_laws.specs.Replace.Rule.{replace_rule};
 ghost use Rattle.step_rules.specs.Answer as answer;
 ghost use Rattle.step_rules.specs.Lawful.{IsTarget, config_side};
 ghost use Rattle.step_driver.specs.PlainTarget.{target};
+ghost use Rattle.step_driver.specs.Tables.{HasTables};
 ghost use Rattle.schedule_calls.specs.PlainRequest.{plain_asked, plain_change, plain_operation};
 ghost use Rattle.schedule_calls.specs.Requests as request;
 ghost use Rattle.schedule_laws.specs.Operators.Arguments as plain;
@@ -122,7 +121,7 @@ pub(crate) fn call_eqv_at(
     at: &Asked<'_>,
     name: &Text,
 ) -> Result<Proposal, Why>
-    requires modes { table_says on.now.modes.now ≡ modes_of (program on.now.unit.now) }
+    requires tables { HasTables on.now }
     requires target { IsTarget (target on.now) }
     requires unit { program on.now.unit.now ≡ program s.now.unit }
     requires origins { map origin on.now.origins.now ≡ (versions s.now).origins }
@@ -144,7 +143,7 @@ pub(crate) fn replace_at(
     at: &Asked<'_>,
     name: &Text,
 ) -> Result<Proposal, Why>
-    requires modes { table_says on.now.modes.now ≡ modes_of (program on.now.unit.now) }
+    requires tables { HasTables on.now }
     requires target { IsTarget (target on.now) }
     requires unit { program on.now.unit.now ≡ program s.now.unit }
     requires origins { map origin on.now.origins.now ≡ (versions s.now).origins }
@@ -173,7 +172,7 @@ pub(crate) fn bind_config_at(
     config: &Text,
     field: &Name,
 ) -> Result<Proposal, Why>
-    requires modes { table_says on.now.modes.now ≡ modes_of (program on.now.unit.now) }
+    requires tables { HasTables on.now }
     requires target { IsTarget (target on.now) }
     requires unit { program on.now.unit.now ≡ program s.now.unit }
     requires origins { map origin on.now.origins.now ≡ (versions s.now).origins }
@@ -247,7 +246,7 @@ fn written(
     kind: Kind,
     e: &SourceExpr,
 ) -> Result<Proposal, Why>
-    requires modes { table_says on.now.modes.now ≡ modes_of (program on.now.unit.now) }
+    requires tables { HasTables on.now }
     requires target { IsTarget (target on.now) }
     requires form { value_has_form (control_kind kind) (tree_of e.now) ≡ true }
     requires known { knows_fields (program on.now.unit.now).fields (tree_of e.now) ≡ true }
@@ -277,7 +276,7 @@ pub(crate) fn write_config_at(
     field: &Name,
     e: &SourceExpr,
 ) -> Result<Proposal, Why>
-    requires modes { table_says on.now.modes.now ≡ modes_of (program on.now.unit.now) }
+    requires tables { HasTables on.now }
     requires target { IsTarget (target on.now) }
     requires unit { program on.now.unit.now ≡ program s.now.unit }
     requires origins { map origin on.now.origins.now ≡ (versions s.now).origins }

@@ -3,8 +3,6 @@ ghost use Rattle.std.specs.Prelude.{◌≡◌, true, option_map, map};
 ghost use Rattle.exo_tree.specs.PlainPlace.{branch_taken};
 ghost use Rattle.exo_tree.specs.PlainProcedure.{procedure};
 ghost use Rattle.exo_tree.specs.PlainUnit.{program};
-ghost use Rattle.exo_modes.specs.Marks.{modes_of};
-ghost use Rattle.exo_modes.specs.Seen.{table_says};
 ghost use Rattle.config_live.specs.Origins.{origin};
 ghost use Rattle.cursor_forward.specs.PlainProposal.{plain_proposal};
 ghost use Rattle.loop_rewrites.specs.PlainTail as made;
@@ -12,6 +10,7 @@ ghost use Rattle.loop_laws.specs.Nest.Fission.{fission_rule};
 ghost use Rattle.step_rules.specs.Answer.{proposed};
 ghost use Rattle.step_rules.specs.Lawful.{IsTarget};
 ghost use Rattle.step_driver.specs.PlainTarget.{target};
+ghost use Rattle.step_driver.specs.Tables.{HasTables};
 ghost use Rattle.schedule_calls.specs.PlainRequest.{plain_asked, plain_change, plain_division};
 ghost use Rattle.schedule_calls.specs.PlainRequest.{plain_operation, plain_tail};
 ghost use Rattle.schedule_laws.specs.Operators.Arguments.{division_of, tail_of};
@@ -52,7 +51,7 @@ pub(crate) fn proposed<O: Operator>(
     at: &Path,
     op: &O,
 ) -> Result<Proposal, Why>
-    requires modes { table_says on.now.modes.now ≡ modes_of (program on.now.unit.now) }
+    requires tables { HasTables on.now }
     requires target { IsTarget (target on.now) }
     ensures { Makes plain_proposal
         (as_tried (proposed (O.rule op.now) (target on.now) at.now)) result }
@@ -67,7 +66,7 @@ fn on_procedure<O: Operator>(
     s: &Session,
     op: &O,
 ) -> Result<Proposal, Why>
-    requires modes { table_says on.now.modes.now ≡ modes_of (program on.now.unit.now) }
+    requires tables { HasTables on.now }
     requires target { IsTarget (target on.now) }
     requires unit { program on.now.unit.now ≡ program s.now.unit }
     requires origins { map origin on.now.origins.now ≡ (versions s.now).origins }
@@ -86,7 +85,7 @@ pub(crate) fn at_statement<O: Operator>(
     at: &Asked<'_>,
     op: &O,
 ) -> Result<Proposal, Why>
-    requires modes { table_says on.now.modes.now ≡ modes_of (program on.now.unit.now) }
+    requires tables { HasTables on.now }
     requires target { IsTarget (target on.now) }
     requires unit { program on.now.unit.now ≡ program s.now.unit }
     requires origins { map origin on.now.origins.now ≡ (versions s.now).origins }
@@ -100,7 +99,7 @@ pub(crate) fn at_statement<O: Operator>(
 
 /// What `fission` makes at the gap that is asked for.
 fn fission_at(alloc: Global, on: &Target<'_>, s: &Session, at: &Asked<'_>) -> Result<Proposal, Why>
-    requires modes { table_says on.now.modes.now ≡ modes_of (program on.now.unit.now) }
+    requires tables { HasTables on.now }
     requires target { IsTarget (target on.now) }
     requires unit { program on.now.unit.now ≡ program s.now.unit }
     requires origins { map origin on.now.origins.now ≡ (versions s.now).origins }
@@ -126,7 +125,7 @@ fn eliminate_at(
     at: &Asked<'_>,
     keep: Option<Branch>,
 ) -> Result<Proposal, Why>
-    requires modes { table_says on.now.modes.now ≡ modes_of (program on.now.unit.now) }
+    requires tables { HasTables on.now }
     requires target { IsTarget (target on.now) }
     requires unit { program on.now.unit.now ≡ program s.now.unit }
     requires origins { map origin on.now.origins.now ≡ (versions s.now).origins }
@@ -173,7 +172,7 @@ fn at_cursor(
     at: &Asked<'_>,
     operator: CursorOperator,
 ) -> Result<Proposal, Why>
-    requires modes { table_says on.now.modes.now ≡ modes_of (program on.now.unit.now) }
+    requires tables { HasTables on.now }
     requires target { IsTarget (target on.now) }
     requires unit { program on.now.unit.now ≡ program s.now.unit }
     requires origins { map origin on.now.origins.now ≡ (versions s.now).origins }
@@ -207,7 +206,7 @@ fn by_word(
     operator: WordOperator,
     name: &Text,
 ) -> Result<Proposal, Why>
-    requires modes { table_says on.now.modes.now ≡ modes_of (program on.now.unit.now) }
+    requires tables { HasTables on.now }
     requires target { IsTarget (target on.now) }
     requires unit { program on.now.unit.now ≡ program s.now.unit }
     requires origins { map origin on.now.origins.now ≡ (versions s.now).origins }
@@ -230,7 +229,7 @@ fn changed(
     at: &Asked<'_>,
     change: &Change<'_>,
 ) -> Result<Proposal, Why>
-    requires modes { table_says on.now.modes.now ≡ modes_of (program on.now.unit.now) }
+    requires tables { HasTables on.now }
     requires target { IsTarget (target on.now) }
     requires unit { program on.now.unit.now ≡ program s.now.unit }
     requires origins { map origin on.now.origins.now ≡ (versions s.now).origins }
@@ -275,7 +274,7 @@ fn on_whole(
     s: &Session,
     operator: WholeOperator,
 ) -> Result<Proposal, Why>
-    requires modes { table_says on.now.modes.now ≡ modes_of (program on.now.unit.now) }
+    requires tables { HasTables on.now }
     requires target { IsTarget (target on.now) }
     requires unit { program on.now.unit.now ≡ program s.now.unit }
     requires origins { map origin on.now.origins.now ≡ (versions s.now).origins }
@@ -296,7 +295,7 @@ pub(crate) fn planned(
     s: &Session,
     operation: &Operation<'_>,
 ) -> Result<Proposal, Why>
-    requires modes { table_says on.now.modes.now ≡ modes_of (program on.now.unit.now) }
+    requires tables { HasTables on.now }
     requires target { IsTarget (target on.now) }
     requires unit { program on.now.unit.now ≡ program s.now.unit }
     requires origins { map origin on.now.origins.now ≡ (versions s.now).origins }

@@ -3,8 +3,6 @@ ghost use Rattle.std.specs.Prelude.{◌≡◌, true, MatchResult, map};
 ghost use Rattle.exo_tree.specs.PlainControl.{condition, control};
 ghost use Rattle.exo_tree.specs.PlainProcedure.{procedure};
 ghost use Rattle.exo_tree.specs.PlainUnit.{program};
-ghost use Rattle.exo_modes.specs.Marks.{modes_of};
-ghost use Rattle.exo_modes.specs.Seen.{table_says};
 ghost use Rattle.text_expressions.specs.Views.{tree_of};
 ghost use Rattle.rules_names.specs.Arguments.{is_control_form, is_condition_form, knows_fields};
 ghost use Rattle.config_live.specs.Origins.{origin};
@@ -13,6 +11,7 @@ ghost use Rattle.loop_laws.specs.Specialize.{specialize_rule};
 ghost use Rattle.step_rules.specs.Answer as answer;
 ghost use Rattle.step_rules.specs.Lawful.{IsTarget};
 ghost use Rattle.step_driver.specs.PlainTarget.{target};
+ghost use Rattle.step_driver.specs.Tables.{HasTables};
 ghost use Rattle.schedule_calls.specs.PlainRequest.{plain_asked};
 ghost use Rattle.schedule_laws.specs.Operators.Arguments.{condition_at, control_at};
 ghost use Rattle.schedule_laws.specs.Operators.Calls.{condition_call, control_call};
@@ -85,7 +84,7 @@ fn made_by(
     operator: ControlOperator,
     e: &Ctrl,
 ) -> Result<Proposal, Why>
-    requires modes { table_says on.now.modes.now ≡ modes_of (program on.now.unit.now) }
+    requires tables { HasTables on.now }
     requires target { IsTarget (target on.now) }
     ensures { Makes plain_proposal (as_tried (answer.proposed (control_rule operator (control e.now))
         (target on.now) path.now)) result }
@@ -104,7 +103,7 @@ fn resolved(
     operator: ControlOperator,
     e: &SourceExpr,
 ) -> Result<Proposal, Why>
-    requires modes { table_says on.now.modes.now ≡ modes_of (program on.now.unit.now) }
+    requires tables { HasTables on.now }
     requires target { IsTarget (target on.now) }
     requires form { is_control_form (tree_of e.now) ≡ true }
     requires known { knows_fields (program on.now.unit.now).fields (tree_of e.now) ≡ true }
@@ -120,7 +119,7 @@ fn resolved(
 
 /// What a condition makes of some statements.
 fn specialized_by(alloc: Global, on: &Target<'_>, piece: &Piece, c: &Cond) -> Result<Proposal, Why>
-    requires modes { table_says on.now.modes.now ≡ modes_of (program on.now.unit.now) }
+    requires tables { HasTables on.now }
     requires target { IsTarget (target on.now) }
     ensures { Makes plain_proposal
         (as_tried (answer.proposed (specialize_rule piece.now.count (condition c.now))
@@ -140,7 +139,7 @@ fn specialized(
     piece: &Piece,
     c: &SourceExpr,
 ) -> Result<Proposal, Why>
-    requires modes { table_says on.now.modes.now ≡ modes_of (program on.now.unit.now) }
+    requires tables { HasTables on.now }
     requires target { IsTarget (target on.now) }
     requires form { is_condition_form (tree_of c.now) ≡ true }
     requires known { knows_fields (program on.now.unit.now).fields (tree_of c.now) ≡ true }
@@ -162,7 +161,7 @@ pub(crate) fn by_control(
     operator: ControlOperator,
     e: &SourceExpr,
 ) -> Result<Proposal, Why>
-    requires modes { table_says on.now.modes.now ≡ modes_of (program on.now.unit.now) }
+    requires tables { HasTables on.now }
     requires target { IsTarget (target on.now) }
     requires unit { program on.now.unit.now ≡ program s.now.unit }
     requires origins { map origin on.now.origins.now ≡ (versions s.now).origins }
@@ -183,7 +182,7 @@ pub(crate) fn specialize_at(
     at: &Asked<'_>,
     c: &SourceExpr,
 ) -> Result<Proposal, Why>
-    requires modes { table_says on.now.modes.now ≡ modes_of (program on.now.unit.now) }
+    requires tables { HasTables on.now }
     requires target { IsTarget (target on.now) }
     requires unit { program on.now.unit.now ≡ program s.now.unit }
     requires origins { map origin on.now.origins.now ≡ (versions s.now).origins }

@@ -102,6 +102,7 @@ impl Running {
             unit: &self.session.unit,
             origins: &self.session.origins,
             modes: &self.modes,
+            writes: &self.writes,
             number: k,
             proc,
         };

@@ -3,8 +3,6 @@ ghost use Rattle.std.specs.Prelude.{◌≡◌, true, map};
 ghost use Rattle.std.specs.List.{list_all};
 ghost use Rattle.exo_tree.specs.PlainProcedure.{procedure};
 ghost use Rattle.exo_tree.specs.PlainUnit.{program};
-ghost use Rattle.exo_modes.specs.Marks.{modes_of};
-ghost use Rattle.exo_modes.specs.Seen.{table_says};
 ghost use Rattle.exo_reader.specs.Views.{plain_coordinate, plain_window};
 ghost use Rattle.rules_names.specs.Arguments.{is_coordinate_form, knows_coordinate};
 ghost use Rattle.config_live.specs.Origins.{origin};
@@ -13,6 +11,7 @@ ghost use Rattle.alloc_laws.specs.Stage.Staging.{stage_rule};
 ghost use Rattle.step_rules.specs.Answer as answer;
 ghost use Rattle.step_rules.specs.Lawful.{IsTarget};
 ghost use Rattle.step_driver.specs.PlainTarget.{target, plain_piece};
+ghost use Rattle.step_driver.specs.Tables.{HasTables};
 ghost use Rattle.schedule_calls.specs.PlainRequest.{plain_asked};
 ghost use Rattle.schedule_laws.specs.Operators.Arguments.{staging_at};
 ghost use Rattle.schedule_laws.specs.Operators.Calls.{window_call};
@@ -57,7 +56,7 @@ fn staged(
     name: &Name,
     accum: bool,
 ) -> Result<Proposal, Why>
-    requires modes { table_says on.now.modes.now ≡ modes_of (program on.now.unit.now) }
+    requires tables { HasTables on.now }
     requires target { IsTarget (target on.now) }
     requires form { list_all is_coordinate_form (map plain_coordinate w.now.coords.items) ≡ true }
     requires known { list_all (knows_coordinate (program on.now.unit.now).fields)
@@ -93,7 +92,7 @@ pub(crate) fn stage_mem_at(
     name: &Name,
     accum: bool,
 ) -> Result<Proposal, Why>
-    requires modes { table_says on.now.modes.now ≡ modes_of (program on.now.unit.now) }
+    requires tables { HasTables on.now }
     requires target { IsTarget (target on.now) }
     requires unit { program on.now.unit.now ≡ program s.now.unit }
     requires origins { map origin on.now.origins.now ≡ (versions s.now).origins }

@@ -1,4 +1,5 @@
 pub mod PlainTarget
+pub mod Tables
 pub mod PlainWriting
 pub mod PlainExit
 pub mod Spots

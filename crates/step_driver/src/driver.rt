@@ -4,8 +4,6 @@ ghost use Rattle.exo_tree.specs.Tree.{block, statements};
 ghost use Rattle.exo_tree.specs.PlainProcedure.{procedure};
 ghost use Rattle.exo_tree.specs.PlainUnit.{program};
 ghost use Rattle.exo_tree.specs.Places.{opened};
-ghost use Rattle.exo_modes.specs.Marks.{modes_of};
-ghost use Rattle.exo_modes.specs.Seen.{table_says};
 ghost use Rattle.made_trees.specs.Ids as ids;
 ghost use Rattle.made_trees.specs.Passes.{is_alone};
 ghost use Rattle.affine_systems.specs.Outcomes.{plain_obligation};
@@ -20,6 +18,7 @@ ghost use Rattle.step_driver.specs.PlainExit.{plain_exit};
 ghost use Rattle.step_driver.specs.PlainTarget.{target, plain_piece};
 ghost use Rattle.step_driver.specs.Spots.{spot_at, exit_of};
 ghost use Rattle.step_driver.specs.Stages.{shape_of, version_by, edits_by, plan_by, settled, concluded, finished};
+ghost use Rattle.step_driver.specs.Tables.{HasTables};
 
 use crate::made::{passed, placed, version};
 use crate::operator::{Exit, Operator, Writing};
@@ -35,7 +34,7 @@ use step_rules::laws::{carrying_rules_forward, lawful_rules_keep_meaning, propos
 use tree_edits::alone_at;
 use tree_rules::{Findings, findings_of_body, findings_of_version};
 
-/// What the step of an operator makes of a procedure at a path. The table is that of the unit.
+/// What the step of an operator makes of a procedure at a path. The tables are those of the unit.
 ///
 /// Refusals come in this order: the shape of the place; rules and scope of the result as it is made and of what
 /// is needed; the operator's own; then normal forms and what is owed; then names and limits of the result.
@@ -46,7 +45,7 @@ pub fn propose<O: Operator>(
     at: &Path,
     op: &O,
 ) -> Result<Proposal, StepError>
-    requires modes { table_says on.now.modes.now ≡ modes_of (program on.now.unit.now) }
+    requires tables { HasTables on.now }
     requires target { IsTarget (target on.now) }
     ensures answer { Tries plain_proposal (proposed (O.rule op.now) (target on.now) at.now) result }
     ensures kept { IfOk result (λ m. IsKept (target on.now) (plain_proposal m)) }
@@ -67,7 +66,7 @@ fn answered<O: Operator>(
     at: &Path,
     op: &O,
 ) -> Result<Proposal, StepError>
-    requires modes { table_says on.now.modes.now ≡ modes_of (program on.now.unit.now) }
+    requires tables { HasTables on.now }
     requires target { IsTarget (target on.now) }
     ensures { Tries plain_proposal (proposed (O.rule op.now) (target on.now) at.now) result }
 {
@@ -87,7 +86,7 @@ fn answered_there<O: Operator>(
     alone: bool,
     op: &O,
 ) -> Result<Proposal, StepError>
-    requires modes { table_says on.now.modes.now ≡ modes_of (program on.now.unit.now) }
+    requires tables { HasTables on.now }
     requires target { IsTarget (target on.now) }
     requires there { option_map (λ o. is_alone o.around) (opened piece.now.count piece.now.path (block on.now.proc.now.body)) ≡ Some alone }
     ensures { Tries plain_proposal (answer.answered (O.rule op.now) (spot_at (target on.now) (plain_piece piece.now))) result }
@@ -120,7 +119,7 @@ fn shape_kept(
     plain: Block,
     found: Findings,
 ) -> Result<(), StepError>
-    requires modes { table_says on.now.modes.now ≡ modes_of (program on.now.unit.now) }
+    requires tables { HasTables on.now }
     requires there { option_map (λ o. is_alone o.around) (opened piece.now.count piece.now.path (block on.now.proc.now.body)) ≡ Some alone }
     ensures { Refuses (broken (shape_of (spot_at (target on.now) (plain_piece piece.now)) (block plain) found)) result }
 {
@@ -139,7 +138,7 @@ fn finish<O: Operator>(
     base: u32,
     op: &O,
 ) -> Result<Proposal, StepError>
-    requires modes { table_says on.now.modes.now ≡ modes_of (program on.now.unit.now) }
+    requires tables { HasTables on.now }
     requires target { IsTarget (target on.now) }
     requires base { base ≡ ids.next_id (procedure on.now.proc.now) }
     requires small { base ≤ 4294901759 }
@@ -163,7 +162,7 @@ fn conclude<O: Operator>(
     must: Vec<Obligation>,
     op: &O,
 ) -> Result<Proposal, StepError>
-    requires modes { table_says on.now.modes.now ≡ modes_of (program on.now.unit.now) }
+    requires tables { HasTables on.now }
     requires base { base ≡ ids.next_id (procedure on.now.proc.now) }
     requires small { base ≤ 4294901759 }
     requires there { option_map (λ o. is_alone o.around) (opened piece.now.count piece.now.path (block on.now.proc.now.body)) ≡ Some alone }
@@ -184,7 +183,7 @@ fn settle<O: Operator>(
     must: Vec<Obligation>,
     op: &O,
 ) -> Result<Proposal, StepError>
-    requires modes { table_says on.now.modes.now ≡ modes_of (program on.now.unit.now) }
+    requires tables { HasTables on.now }
     requires base { base ≡ ids.next_id (procedure on.now.proc.now) }
     requires small { base ≤ 4294901759 }
     requires there { option_map (λ o. is_alone o.around) (opened piece.now.count piece.now.path (block on.now.proc.now.body)) ≡ Some alone }
@@ -197,7 +196,7 @@ fn settle<O: Operator>(
 
 /// Refuses where the result breaks a rule, uses what is not in scope, binds a name again, or passes a limit.
 fn version_kept(alloc: Global, on: &Target<'_>, base: u32, proc: &Proc) -> Result<(), StepError>
-    requires modes { table_says on.now.modes.now ≡ modes_of (program on.now.unit.now) }
+    requires tables { HasTables on.now }
     ensures { Refuses (broken (findings.findings_of_version (program on.now.unit.now) base (procedure proc.now))) result }
 {
     refused(findings_of_version(alloc, on.unit, on.modes, base, proc)?)

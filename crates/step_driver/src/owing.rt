@@ -1,14 +1,12 @@
 //! What is found of an operator's needs, and what they owe.
 ghost use Rattle.std.specs.Prelude.{◌≡◌, true, map, IfOk};
-ghost use Rattle.exo_modes.specs.Marks.{modes_of};
-ghost use Rattle.exo_modes.specs.Seen.{table_says};
-ghost use Rattle.exo_tree.specs.PlainUnit.{program};
 ghost use Rattle.affine_systems.specs.Outcomes.{plain_obligation};
 ghost use Rattle.step_rules.specs.Lawful.{IsTarget};
 ghost use Rattle.step_rules.specs.Owing as owing;
 ghost use Rattle.step_needs.specs.Outcomes.{Tries};
 ghost use Rattle.step_driver.specs.PlainTarget.{target, plain_piece};
 ghost use Rattle.step_driver.specs.Spots.{spot_at};
+ghost use Rattle.step_driver.specs.Tables.{HasTables};
 
 use crate::operator::Operator;
 use crate::target::{Piece, Target};
@@ -38,11 +36,11 @@ pub(crate) fn owed<O: Operator>(
     piece: &Piece,
     op: &O,
 ) -> Result<Vec<Obligation>, StepError>
-    requires modes { table_says on.now.modes.now ≡ modes_of (program on.now.unit.now) }
+    requires tables { HasTables on.now }
     requires target { IsTarget (target on.now) }
     requires rules { (owing.findings_of_needs (target on.now) ((O.rule op.now).needs (spot_at (target on.now) (plain_piece piece.now)))).rules ≡ true }
     ensures { Tries (λ v. map plain_obligation v.items) (owing.owed_needs (target on.now) ((O.rule op.now).needs (spot_at (target on.now) (plain_piece piece.now)))) result }
 {
     let needs = op.needs(alloc, on, piece)?;
-    owed_needs(alloc, on.unit, on.modes, on.proc, &needs)
+    owed_needs(alloc, on.unit, on.modes, on.writes, on.proc, &needs)
 }

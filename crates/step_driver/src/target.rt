@@ -9,18 +9,21 @@ ghost use Rattle.step_driver.specs.PlainTarget.{target, plain_piece};
 ghost use Rattle.step_driver.specs.Spots.{spot_at};
 
 use config_live::Origin;
+use config_state::FieldTable;
 use cursor_forward::{Shift, Shifts};
 use exo_modes::ModeTable;
 use exo_tree::{Block, Branch, Path, Proc, ProcId, Step, Stmt, Unit, at};
 use std::alloc::{AllocError, Global};
 use tree_edits::piece_at;
 
-/// A procedure of a unit, with how each of the unit was made and the table of what each touches.
+/// A procedure of a unit, with how each of the unit was made, and the tables of which buffers each
+/// touches and which fields it may write.
 #[derive(Clone, Copy)]
 pub struct Target<'a> {
     pub unit: &'a Unit,
     pub origins: &'a [Origin],
     pub modes: &'a ModeTable,
+    pub writes: &'a FieldTable,
     pub number: ProcId,
     /// The procedure of that number.
     pub proc: &'a Proc,

@@ -1,10 +1,12 @@
 //! What needs owe, as systems in the contexts of their places.
-ghost use Rattle.std.specs.Prelude.{◌≡◌, true, IsTrue, map};
+ghost use Rattle.std.specs.Prelude.{◌≡◌, true, IsTrue, map, length};
 ghost use Rattle.std.specs.List.{list_all};
 ghost use Rattle.exo_tree.specs.PlainProcedure.{procedure};
 ghost use Rattle.exo_tree.specs.PlainUnit.{program};
 ghost use Rattle.exo_modes.specs.Marks.{modes_of};
 ghost use Rattle.exo_modes.specs.Seen.{table_says};
+ghost use Rattle.meaning_laws.specs.UnitFields.{unit_writes};
+ghost use Rattle.config_state.specs.FieldSets.{IsTable};
 ghost use Rattle.affine_forms.specs.Formulas.{condition_keeps_rules};
 ghost use Rattle.affine_places.specs.Roots.{roots_of};
 ghost use Rattle.affine_places.specs.Seen.{roots_in};
@@ -31,7 +33,7 @@ use affine_places::{AtPlace, Roots};
 use affine_systems::{Context, Obligation, OwedList, systems};
 use check_facts::Cursor;
 use check_facts::laws::well_formed_procedures_may_be_walked;
-use config_state::written_table;
+use config_state::FieldTable;
 use cursor_forward::StepError;
 use exo_modes::ModeTable;
 use exo_tree::{Path, Proc, Unit};
@@ -131,10 +133,13 @@ fn owed_for(
     alloc: Global,
     unit: &Unit,
     modes: &ModeTable,
+    writes: &FieldTable,
     p: &Proc,
     needs: &[Need],
 ) -> Result<Vec<Obligation>, StepError>
     requires modes { table_says modes.now ≡ modes_of (program unit.now) }
+    requires writes { IsTable (length (program unit.now).fields)
+        (unit_writes (program unit.now).procedures) writes.now }
     requires target { (k : Numbered) × IsTarget (target_in (program unit.now, procedure p.now) k) }
     requires rules { (k : Numbered) × ((owing.findings_of_needs (target_in (program unit.now, procedure p.now) k) (map plain_need needs.now)).rules ≡ true) }
     ensures { (k : Numbered) → Tries (λ v. map plain_obligation v.items) (owing.owed_needs (target_in (program unit.now, procedure p.now) k) (map plain_need needs.now)) result }
@@ -142,17 +147,16 @@ fn owed_for(
     procedures_keep_rules();
     well_formed_procedures_may_be_walked();
     let roots = Roots::of(alloc, p)?;
-    let writes = written_table(alloc, unit)?;
     let words = Words::new(alloc, unit, p)?;
     let site = Site {
         unit,
         modes,
         proc: p,
         roots: &roots,
-        writes: &writes,
+        writes,
         words: &words,
     };
-    let mut cursor = Cursor::new(alloc, unit, p, &roots, &writes);
+    let mut cursor = Cursor::new(alloc, unit, p, &roots, writes);
     let mut out = OwedList::new(alloc);
     put_needs(alloc, &site, &mut cursor, needs, &mut out)?;
     Ok(out.into_items())
@@ -165,10 +169,13 @@ pub fn owed_needs(
     alloc: Global,
     unit: &Unit,
     modes: &ModeTable,
+    writes: &FieldTable,
     p: &Proc,
     needs: &[Need],
 ) -> Result<Vec<Obligation>, StepError>
     requires modes { table_says modes.now ≡ modes_of (program unit.now) }
+    requires writes { IsTable (length (program unit.now).fields)
+        (unit_writes (program unit.now).procedures) writes.now }
     requires target { (k : Numbered) × IsTarget (target_in (program unit.now, procedure p.now) k) }
     requires rules { (k : Numbered) × ((owing.findings_of_needs (target_in (program unit.now, procedure p.now) k) (map plain_need needs.now)).rules ≡ true) }
     ensures { (k : Numbered) → Tries (λ v. map plain_obligation v.items) (owing.owed_needs (target_in (program unit.now, procedure p.now) k) (map plain_need needs.now)) result }
@@ -176,5 +183,5 @@ pub fn owed_needs(
     let [_, ..] = needs else {
         return Ok(Vec::new(alloc));
     };
-    owed_for(alloc, unit, modes, p, needs)
+    owed_for(alloc, unit, modes, writes, p, needs)
 }

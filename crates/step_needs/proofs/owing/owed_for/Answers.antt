@@ -33,7 +33,7 @@ put_needs-requires-clause-site c =
       well = well c.well_formed_procedures_may_be_walked.ensures c.procedures_keep_rules.ensures t c.requires.target.1;
       modes = c.requires.modes;
       roots = c.in_ok-roots.ensures;
-      writes = c.in_ok-writes.ensures;
+      writes = c.requires.writes;
       words = c.in_ok-words.ensures;
     }
 

@@ -6,6 +6,12 @@ use Rattle.schedule_run.specs.Running.{versions_in}
 use Rattle.schedule_run.proofs.Plans.{all_stand}
 use Rattle.schedule_run.proofs.running.Running.plan.Goals as goal
 
+pub planned-requires-clause-tables : goal.planned-requires-clause-tables
+planned-requires-clause-tables c = record {
+  modes = c.requires.running.modes;
+  writes = c.requires.running.writes.is;
+}
+
 pub returns-clause-kept : goal.returns-clause-kept
 returns-clause-kept c =
     all_stand (versions_in c.args.self.now) c.args.k.0 (procedure c.in-Some.proc.now)
