@@ -82,16 +82,13 @@ own_literals (suc n) ds h = front_literals ds h
 stack_is : (scene : Scene) (most : ℕ → ℕ) (memory : Memory) (ds : List Control) → FitsMemory memory most ds → all_positive (numbers scene ds) ≡ true → (memory.stack || is_empty ds) ≡ true → stack_count (without_lanes memory.lanes ds) ≡ product (numbers scene (without_lanes memory.lanes ds))
 stack_is scene most memory ds fit above h = go memory.stack refl h
   where
-    one_times : (z : ℤ) → pos 1 *ℤ z ≡ z
-    one_times z = omega (arith, ints)
-
     empty : (lanes : ℕ) (es : List Control) → is_empty es ≡ true → stack_count (without_lanes lanes es) ≡ product (numbers scene (without_lanes lanes es))
     empty zero [] e = refl
     empty (suc n) [] e = refl
     empty lanes (d ∷ es) e = absurd (true≢false (sym e))
 
     go : (t : Bool) → memory.stack ≡ t → (t || is_empty ds) ≡ true → stack_count (without_lanes memory.lanes ds) ≡ product (numbers scene (without_lanes memory.lanes ds))
-    go true e k = count_is scene most 1 (without_lanes memory.lanes ds) (own_literals memory.lanes ds (fit.literals e)) refl (own_positive scene memory.lanes ds above) (fit.small e) ∙ one_times _
+    go true e k = count_is scene most (without_lanes memory.lanes ds) (own_literals memory.lanes ds (fit.literals e)) (own_positive scene memory.lanes ds above) (fit.small e)
     go false e k = empty memory.lanes ds k
 
 -- ---- the whole statement

@@ -16,7 +16,7 @@ use Rattle.c_follows.specs.Good.{IsBufferOf, AreGoodCoords, IsGoodArgument}
 use Rattle.c_follows.proofs.Steps.{follows_none, follows_both}
 use Rattle.c_follows.proofs.Windows.{some_same, no_some, mapped, tested}
 use Rattle.c_follows.proofs.Places.{tensor_here, window_here}
-use Rattle.c_follows.proofs.Open.{open_number, open_bounded}
+use Rattle.c_follows.proofs.Open.{open_given, open_bounded}
 use Rattle.c_follows.proofs.Tests.{test_is}
 use Rattle.c_follows.proofs.Begun.{all_extents}
 use Rattle.c_follows.proofs.Handed.{SeesPart, own, window_is, first_spot, thing_is, within_is}
@@ -73,7 +73,7 @@ module _ (Few : Type 0) (g : Ground) (forms : Forms) (most : ℕ → ℕ) (root 
   pub control_follows : (bound : ℕ) (kind : Kind) (a : Argument) → IsGoodArgument g.declared forms most bound function (ControlParam kind) a → Follows Few (Same bound (ControlParam kind)) (given s.scene a) (thing_by from m.setting (actual_of g.naming forms (ControlParam kind) a))
   control_follows bound kind (ControlArg a) h =
       follows_both Few (Same bound (ControlParam kind)) _ _ (GivenNumber (number s.scene a)) (IsNumber (number s.scene a)) refl
-      (ap (λ o. after o (λ n. Done (IsNumber n))) (open_number g.naming forms most layout s.scene m.setting match.names match.placed g.declared match.fields a h.0.0 h.0.1))
+      (open_given g.naming forms most layout s.scene m.setting match.names match.placed g.declared match.fields a h.0.0 h.0.1)
       (reads.number_is (number s.scene a), le_trans (open_bounded g.naming forms most layout s.scene m.setting match.names match.placed g.declared match.fields a h.0.0) h.1)
   control_follows bound kind (ConditionArg c) h =
       follows_both Few (Same bound (ControlParam kind)) _ _ (GivenNumber (truth (holds s.scene c))) (IsNumber (truth (holds s.scene c))) refl

@@ -1,16 +1,18 @@
 -- How many cells the elements of an allocation have.
-use Rattle.std.proofs.Common.{◌≡◌, ◌*◌, ◌^◌, ℕ, zero, suc, ℤ, pos, negsuc, ◌+ℤ◌, ◌*ℤ◌, ◌≤ℤ◌, true, ◌&&◌, cond, List, [], ◌∷◌, length, refl, sym, ap, ◌∙◌, subst, arith, true≢false, int_le}
+use Rattle.std.proofs.Common.{◌≡◌, ◌≤◌, ◌*◌, ◌^◌, ℕ, zero, suc, ℤ, pos, negsuc, ◌+ℤ◌, ◌*ℤ◌, ◌≤ℤ◌, true, ◌&&◌, cond, List, [], ◌∷◌, length, refl, sym, ap, ◌∙◌, subst, arith, true≢false, int_le}
 use Rattle.std.proofs.lemmas.Int.{ints}
+use Rattle.std.proofs.Math.Nat.{le_refl}
 use Rattle.std.proofs.lemmas.Bool.{and_parts, and_from}
+use Rattle.std.proofs.lemmas.Nat.{mul-le}
 use Rattle.exo_tree.specs.Tree.{Control, Lit}
 use Rattle.exo_meaning.specs.Scene.{Scene, numbers, number}
 use Rattle.exo_meaning.specs.Calls.{all_positive}
 use Rattle.exo_meaning.specs.Run.{product, row_major}
 use Rattle.exo_meaning.specs.Inputs.{IsBetween}
 use Rattle.exo_meaning.specs.Orders.{Each}
-use Rattle.c_widths.specs.Magnitude.{magnitude, fits, is_narrow}
-use Rattle.c_widths.specs.Widths.{fits_cells}
-use Rattle.c_lowered.specs.Lowered.{Forms, stack_count_from, front}
+use Rattle.c_widths.specs.Magnitude.{fits}
+use Rattle.c_widths.specs.Widths.{are_narrow, cells_magnitude, fits_cells}
+use Rattle.c_lowered.specs.Lowered.{Forms, stack_count_from, stack_count, front}
 use Rattle.c_follows.specs.Simulation.{EndsIn, dot, in_range}
 use Rattle.c_follows.specs.Good.{AreGood, AreLiterals, EndsInLanes}
 use Rattle.c_follows.proofs.Extents.{positive_product, right_factor, times_assoc, both_positive}
@@ -76,31 +78,65 @@ module _ (scene : Scene) where
 
   -- ---- literals
 
-  fits_first : (most : ℕ → ℕ) (n : ℕ) (ds : List Control) → fits_cells most n ds ≡ true → fits n ≡ true
-  fits_first most n [] h = h
-  fits_first most n (d ∷ ds) h = (and_parts (fits n) (is_narrow most d) (and_parts (fits n && is_narrow most d) (fits_cells most (n * magnitude most d) ds) h).0).0
+  -- there are some cells
+  some_cells : (most : ℕ → ℕ) (ds : List Control) → AreLiterals ds → all_positive (numbers scene ds) ≡ true → 1 ≤ cells_magnitude most ds
+  some_cells most [] h p = omega arith
+  some_cells most (d ∷ ds) h p = subst HasSome (sym h.0.1) (of_literal h.0.0) p
+    where
+      HasSome : Control → Type 0
+      HasSome c = all_positive (numbers scene (c ∷ ds)) ≡ true → 1 ≤ cells_magnitude most (c ∷ ds)
+
+      of_literal : (z : ℤ) → HasSome (Lit z)
+      of_literal (negsuc k) q = absurd (true≢false (sym (and_parts (int_le (pos 1) (negsuc k)) (all_positive (numbers scene ds)) q).0))
+      of_literal (pos k) q =
+          let parts = and_parts (int_le (pos 1) (pos k)) (all_positive (numbers scene ds)) q in
+          let some : 1 ≤ k = at_least k parts.0 in
+          omega (arith, mul-le 1 k 1 (cells_magnitude most ds) some (some_cells most ds h.1 parts.1))
+        where
+          at_least : (k : ℕ) → int_le (pos 1) (pos k) ≡ true → 1 ≤ k
+          at_least k e = grind arith
+
+  -- a part fits where the whole does
+  part_fits : (n p : ℕ) → 1 ≤ p → fits (n * p) ≡ true → fits n ≡ true
+  part_fits n p h f = smaller n (n * p) (omega (arith, mul-le n n 1 p (le_refl n) h)) f
+    where
+      smaller : (a b : ℕ) → a ≤ b → fits b ≡ true → fits a ≡ true
+      smaller a b l f = grind arith
 
   within : (n : ℕ) → fits n ≡ true → int_le (pos n) (pos 4611686018427387904) ≡ true
   within n h = grind arith
 
   abbrev Counts : (ℕ → ℕ) → ℕ → List Control → Control → Type 0
-  Counts most n ds c = all_positive (numbers scene (c ∷ ds)) ≡ true → fits_cells most n (c ∷ ds) ≡ true → stack_count_from (pos n) (c ∷ ds) ≡ pos n *ℤ product (numbers scene (c ∷ ds))
+  Counts most n ds c = all_positive (numbers scene (c ∷ ds)) ≡ true → fits (n * cells_magnitude most (c ∷ ds)) ≡ true → stack_count_from (pos n) (c ∷ ds) ≡ pos n *ℤ product (numbers scene (c ∷ ds))
 
-  of_literal : (most : ℕ → ℕ) (n : ℕ) (ds : List Control) → int_le (pos 1) (pos n) ≡ true → ((k : ℕ) → int_le (pos 1) (pos (n * k)) ≡ true → all_positive (numbers scene ds) ≡ true → fits_cells most (n * k) ds ≡ true → stack_count_from (pos (n * k)) ds ≡ pos (n * k) *ℤ product (numbers scene ds)) → (z : ℤ) → Counts most n ds (Lit z)
-  of_literal most n ds one rest (negsuc k) q i = absurd (true≢false (sym (and_parts (int_le (pos 1) (negsuc k)) (all_positive (numbers scene ds)) q).0))
-  of_literal most n ds one rest (pos k) q i =
+  of_literal : (most : ℕ → ℕ) (n : ℕ) (ds : List Control) → AreLiterals ds → int_le (pos 1) (pos n) ≡ true → ((k : ℕ) → int_le (pos 1) (pos (n * k)) ≡ true → all_positive (numbers scene ds) ≡ true → fits (n * k * cells_magnitude most ds) ≡ true → stack_count_from (pos (n * k)) ds ≡ pos (n * k) *ℤ product (numbers scene ds)) → (z : ℤ) → Counts most n ds (Lit z)
+  of_literal most n ds h one rest (negsuc k) q i = absurd (true≢false (sym (and_parts (int_le (pos 1) (negsuc k)) (all_positive (numbers scene ds)) q).0))
+  of_literal most n ds h one rest (pos k) q i =
       let parts = and_parts (int_le (pos 1) (pos k)) (all_positive (numbers scene ds)) q in
-      let later = (and_parts (fits n && is_narrow most (Lit (pos k))) (fits_cells most (n * k) ds) i).1 in
-      ap (λ t. cond t (stack_count_from (pos n *ℤ pos k) ds) (pos 0)) (within (n * k) (fits_first most (n * k) ds later))
+      let cells = cells_magnitude most ds in
+      let later : fits (n * k * cells) ≡ true = ap fits (behind n k cells) ∙ i in
+      ap (λ t. cond t (stack_count_from (pos n *ℤ pos k) ds) (pos 0)) (within (n * k) (part_fits (n * k) cells (some_cells most ds h parts.1) later))
       ∙ rest k (both_positive (pos n) (pos k) one parts.0) parts.1 later
       ∙ times_assoc (pos n) (pos k) (product (numbers scene ds)) one parts.0 (positive_product (numbers scene ds) parts.1)
+    where
+      behind : (n k p : ℕ) → n * k * p ≡ n * (k * p)
+      behind n k p = omega arith
 
-  pub count_is : (most : ℕ → ℕ) (n : ℕ) (ds : List Control) → AreLiterals ds → int_le (pos 1) (pos n) ≡ true → all_positive (numbers scene ds) ≡ true → fits_cells most n ds ≡ true → stack_count_from (pos n) ds ≡ pos n *ℤ product (numbers scene ds)
-  count_is most n [] h one p f = times_one (pos n)
+  count_from : (most : ℕ → ℕ) (n : ℕ) (ds : List Control) → AreLiterals ds → int_le (pos 1) (pos n) ≡ true → all_positive (numbers scene ds) ≡ true → fits (n * cells_magnitude most ds) ≡ true → stack_count_from (pos n) ds ≡ pos n *ℤ product (numbers scene ds)
+  count_from most n [] h one p f = times_one (pos n)
     where
       times_one : (z : ℤ) → z ≡ z *ℤ pos 1
       times_one z = omega (arith, ints)
-  count_is most n (d ∷ ds) h one p f = subst (Counts most n ds) (sym h.0.1) (of_literal most n ds one (λ k o q i. count_is most (n * k) ds h.1 o q i) h.0.0) p f
+  count_from most n (d ∷ ds) h one p f = subst (Counts most n ds) (sym h.0.1) (of_literal most n ds h.1 one (λ k o q i. count_from most (n * k) ds h.1 o q i) h.0.0) p f
+
+  pub count_is : (most : ℕ → ℕ) (ds : List Control) → AreLiterals ds → all_positive (numbers scene ds) ≡ true → fits_cells most ds ≡ true → stack_count ds ≡ product (numbers scene ds)
+  count_is most ds h p f = count_from most 1 ds h refl p (ap fits (once (cells_magnitude most ds)) ∙ (and_parts (are_narrow most ds) (fits (cells_magnitude most ds)) f).1) ∙ one_times (product (numbers scene ds))
+    where
+      once : (m : ℕ) → 1 * m ≡ m
+      once m = omega arith
+
+      one_times : (z : ℤ) → pos 1 *ℤ z ≡ z
+      one_times z = omega (arith, ints)
 
 -- what is asked of all dimensions is asked of all but the last
 pub front_good : (forms : Forms) (most : ℕ → ℕ) (ds : List Control) → AreGood forms most ds → AreGood forms most (front ds)

@@ -1,5 +1,5 @@
 -- Control expressions that may read fields and strides have the same number on both sides.
-use Rattle.std.proofs.Common.{◌≡◌, ◌≤◌, ◌<◌, ◌^◌, ◌+◌, ℕ, zero, suc, ℤ, pos, negsuc, neg_ℤ, ◌+ℤ◌, ◌-ℤ◌, ◌*ℤ◌, ◌≤ℤ◌, true, List, [], ◌∷◌, length, get_or, Some, None, refl, sym, ap, ◌∙◌, subst, arith, int_le, unsigned_abs, ⊎_elim}
+use Rattle.std.proofs.Common.{◌≡◌, ◌≤◌, ◌<◌, ◌^◌, ◌+◌, ℕ, zero, suc, ℤ, pos, negsuc, neg_ℤ, ◌+ℤ◌, ◌-ℤ◌, ◌*ℤ◌, ◌≤ℤ◌, true, List, [], ◌∷◌, length, get_or, Option, Some, None, refl, sym, ap, ◌∙◌, subst, arith, int_le, unsigned_abs, ⊎_elim}
 use Rattle.std.specs.Int.{int_div_euclid, int_rem_euclid}
 use Rattle.std.proofs.lemmas.Int.{ints, unsigned_abs-mul}
 use Rattle.std.proofs.lemmas.Bool.{and_parts}
@@ -11,14 +11,16 @@ use Rattle.exo_meaning.specs.Inputs.{IsBetween}
 use Rattle.exo_meaning.specs.Orders.{Each}
 use Rattle.exo_meaning.specs.Calls.{all_positive}
 use Rattle.exo_meaning.specs.Run.{product, row_major}
-use Rattle.c_tree.specs.CTree.{Number64, Literal, StrideIn, Product}
-use Rattle.c_machine.specs.Machine.{Done, after, where_good, checked, number64, number_under, stride_in, stride_under, Setting, Pointer, IsWindow}
+use Rattle.c_tree.specs.CTree.{Name, Number64, Literal, Named, StrideIn, Opposite, Sum, Difference, Product, Quotient, Remainder}
+use Rattle.c_machine.specs.Machine.{Outcome, Done, after, where_good, checked, number64, number_under, stride_in, stride_under, Setting, Pointer, Thing, IsNumber, IsField, IsFunction, IsArray, IsVectors, IsWindow}
+use Rattle.c_machine.specs.CRun.{thing_alone, number_thing}
 use Rattle.c_lowered.specs.Lowered.{Naming, Forms, number_with, number_of, dims_of, product_of, product_from, row_strides, strides_in, window_strides, or_one}
 use Rattle.c_widths.specs.Magnitude.{magnitude}
 use Rattle.c_follows.specs.Magnitude.{IsNarrow, AreNarrow}
 use Rattle.c_follows.specs.Simulation.{Declared, AreSameFields, HaveForms, IsTensor, IsWindowName, IsPlain, ArePlain, HaveNumbers, Layout, beginning}
 use Rattle.c_follows.specs.Good.{HasStride, IsOpen}
 use Rattle.c_follows.proofs.Extents.{both_positive, positive_product, times_assoc, left_factor, right_factor, abs_within}
+use Rattle.c_follows.proofs.Steps.{fault_is_not_done}
 use Rattle.c_follows.proofs.Numbers.{same_number, counter, narrow, checked_small, on_both_done, abs_add, abs_sub, abs_neg, positive, div_bounded, rem_bounded}
 use Rattle.c_follows.proofs.Places.{tensor_here, window_here}
 use Rattle.c_follows.proofs.Windows.{ArePlaced, strides_length}
@@ -33,6 +35,33 @@ more_room m n h = omega arith
 
 at_most_48 : (a b : ℤ) → a ≤ℤ b → b ≤ℤ pos (2 ^ 48) → a ≤ℤ pos (2 ^ 48)
 at_most_48 a b h k = omega (arith, ints)
+
+-- a number that is done is what it gives as an argument
+number_given : (s : Setting) (e : Number64) (n : ℤ) → number64 s e ≡ Done n → number_thing s e ≡ Done (IsNumber n)
+number_given s e n h = go e h
+  where
+    as_thing : {o : Outcome ℤ} → o ≡ Done n → after o (λ k. Done (IsNumber k)) ≡ Done (IsNumber n)
+    as_thing i = ap (λ o. after o (λ k. Done (IsNumber k))) i
+
+    alone : (x : Name) (t : Option Thing) → number_under s.fields x t ≡ Done n → thing_alone s x t ≡ Done (IsNumber n)
+    alone x None i = absurd (fault_is_not_done i)
+    alone x (Some (IsNumber k)) i = as_thing i
+    alone x (Some IsField) i = as_thing i
+    alone x (Some IsFunction) i = absurd (fault_is_not_done i)
+    alone x (Some (IsArray p)) i = absurd (fault_is_not_done i)
+    alone x (Some (IsVectors p lanes)) i = absurd (fault_is_not_done i)
+    alone x (Some (IsWindow p strides)) i = absurd (fault_is_not_done i)
+
+    go : (e : Number64) → number64 s e ≡ Done n → number_thing s e ≡ Done (IsNumber n)
+    go (Literal k) i = as_thing i
+    go (Named x) i = alone x (s.names x) i
+    go (StrideIn w k) i = as_thing i
+    go (Opposite a) i = as_thing i
+    go (Sum a b) i = as_thing i
+    go (Difference a b) i = as_thing i
+    go (Product a b) i = as_thing i
+    go (Quotient a c) i = as_thing i
+    go (Remainder a c) i = as_thing i
 
 module _ (naming : Naming) (forms : Forms) (most : ℕ → ℕ) (layout : Layout) (scene : Scene) (setting : Setting) (match : HaveForms naming forms most layout scene setting.names) (placed : ArePlaced layout scene setting) where
   -- ---- products of dimensions
@@ -190,3 +219,7 @@ module _ (naming : Naming) (forms : Forms) (most : ℕ → ℕ) (layout : Layout
         let p = positive c h.1 in
         ap (λ t. where_good t (after (number64 setting (number_of naming forms a)) (λ n. checked (int_rem_euclid n c)))) p.3
         ∙ ap (λ o. after o (λ n. checked (int_rem_euclid n c))) (open_number a h.0 k.0) ∙ checked_small _ (le_trans (open_bounded (Mod a c) h) k.1)
+
+    -- as an argument
+    pub open_given : (e : Control) → IsOpen declared forms e → IsNarrow most e → number_thing setting (number_of naming forms e) ≡ Done (IsNumber (number scene e))
+    open_given e h k = number_given setting (number_of naming forms e) (number scene e) (open_number e h k)

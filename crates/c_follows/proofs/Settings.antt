@@ -13,7 +13,7 @@ use Rattle.c_lowered.specs.Lowered.{Forms, actual_of}
 use Rattle.c_follows.specs.Simulation.{Ground, Follows, IsSameField, AreSameFields, Layout, Matches, Ran}
 use Rattle.c_follows.specs.Good.{IsGoodSetting, IsAlone}
 use Rattle.c_follows.proofs.Steps.{follows_both}
-use Rattle.c_follows.proofs.Open.{open_number, open_bounded}
+use Rattle.c_follows.proofs.Open.{open_given, open_bounded}
 use Rattle.c_follows.proofs.Scopes.{same_name_self}
 use Rattle.c_follows.proofs.Tests.{test_is}
 
@@ -33,7 +33,7 @@ module _ (g : Ground) (forms : Forms) (most : ℕ → ℕ) (root : ℕ → ℕ) 
   set_to (ControlArg a) h = (
     number s.scene a,
     refl,
-    ap (λ o. after o (λ n. Done (IsNumber n))) (open_number g.naming forms most layout s.scene m.setting match.names match.placed g.declared match.fields a h.0.0 h.0.1),
+    open_given g.naming forms most layout s.scene m.setting match.names match.placed g.declared match.fields a h.0.0 h.0.1,
     le_trans (open_bounded g.naming forms most layout s.scene m.setting match.names match.placed g.declared match.fields a h.0.0) h.1,
   )
   set_to (ConditionArg c) h = (

@@ -230,11 +230,11 @@ EndsInLanes (suc n) [] = ⊥
 EndsInLanes (suc n) (d ∷ []) = d ≡ Lit (pos (suc n))
 EndsInLanes (suc n) (d ∷ (e ∷ ds)) = EndsInLanes (suc n) (e ∷ ds)
 
--- On the stack the dimensions are literals, and the number of cells, or of vectors, fits as it is built up.
+-- On the stack the dimensions are literals, and the number of cells, or of vectors, fits.
 pub record FitsMemory (memory : Memory) (most : ℕ → ℕ) (dims : List Control) : Type 0 where
   pub last : EndsInLanes memory.lanes dims
   pub literals : memory.stack ≡ true → AreLiterals dims
-  pub small : memory.stack ≡ true → fits_cells most 1 (without_lanes memory.lanes dims) ≡ true
+  pub small : memory.stack ≡ true → fits_cells most (without_lanes memory.lanes dims) ≡ true
 
 -- ---- statements and blocks
 

@@ -1,7 +1,7 @@
 -- The closed runs compute.
 use Rattle.std.proofs.Common.{refl}
 use Rattle.std.specs.Int.{int_wrap}
-use Rattle.c_machine.specs.Examples.{NumbersAreChecked, CellsAreChecked, StoresWrap, CallsAreInPlace, VectorsAreCells}
+use Rattle.c_machine.specs.Examples.{NumbersAreChecked, CellsAreChecked, StoresWrap, CallsAreInPlace, VectorsAreCells, NamesAreOneForm}
 
 pub numbers_are_checked : NumbersAreChecked
 numbers_are_checked = record { too_large = refl; no_divisor = refl; rounds_down = refl; remainder = refl }
@@ -46,3 +46,7 @@ vectors_are_cells = record {
   too_short = refl;
   counted_in_cells = refl;
 }
+
+pub names_are_one_form : NamesAreOneForm
+unfolding int_wrap
+names_are_one_form = record { by_name = refl; by_number = refl; no_window = refl }

@@ -7,7 +7,8 @@ use Rattle.exo_tree.specs.Tree.{Cell}
 use Rattle.exo_meaning.specs.Value.{Value, Undefined, stored_as}
 use Rattle.exo_meaning.specs.Calls.{truth}
 use Rattle.exo_meaning.specs.Run.{count}
-use Rattle.c_tree.specs.CTree.{Name, Element, Single, Vector, Number64, Product, CellRef, Number32}
+use Rattle.c_tree.specs.CTree.{Name, Element, Single, Vector, Number64, Named, Product}
+use Rattle.c_tree.specs.CTree.{CellRef, Number32}
 use Rattle.c_tree.specs.CTree.{Actual, Control64, Tested, Alone, Address, WindowOf, CStatement}
 use Rattle.c_tree.specs.CTree.{Store, AddTo, SetField, Empty, Branch, Loop, Array, Malloc, Free}
 use Rattle.c_tree.specs.CTree.{Bind, CallOf, Instruction, CBlock, stop, first, Formal}
@@ -90,6 +91,11 @@ thing_alone s x (Some (IsArray p)) = Done (IsArray p)
 thing_alone s x (Some (IsVectors p lanes)) = Done (IsVectors p lanes)
 thing_alone s x (Some (IsWindow p strides)) = Done (IsWindow p strides)
 
+-- a name alone gives what it stands for, whatever it is
+abbrev pub number_thing : Setting → Number64 → Outcome Thing
+number_thing s (Named x) = thing_alone s x (s.names x)
+number_thing s e = after (number64 s e) (λ n. Done (IsNumber n))
+
 -- a window from a cell on: so many strides, and cells of that type
 abbrev pub window_from : ℕ → Cell → (ℕ → Option Object) → Pointer → List ℤ → Outcome Thing
 window_from rank cell objects p strides =
@@ -98,7 +104,7 @@ window_from rank cell objects p strides =
 
 -- by where a cell lies
 abbrev pub thing_by : (Option Thing → ℤ → Outcome Pointer) → Setting → Actual → Outcome Thing
-thing_by from s (Control64 e) = after (number64 s e) (λ n. Done (IsNumber n))
+thing_by from s (Control64 e) = number_thing s e
 thing_by from s (Tested t) = after (test s t) (λ b. Done (IsNumber (truth b)))
 thing_by from s (Alone x) = thing_alone s x (s.names x)
 thing_by from s (Address ref) = after (spot_by from s ref) (λ p. Done (IsArray p))

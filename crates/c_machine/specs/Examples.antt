@@ -236,3 +236,20 @@ pub record VectorsAreCells : Type 0 where
       ∷ from_cell (InArray x (Literal (pos 0))) ∷ [])) stop))
       ≡ Fault
   pub counted_in_cells : called (vectors (pos 35184372088833) stop) ≡ NoStore
+
+-- ---- a name alone
+
+-- w is a view from the second cell on, and what is filled is given so
+abbrev pub fill_view : Actual → CBlock
+fill_view a =
+    first (Bind 1 I32 w (InArray x (Literal (pos 1))) (Literal (pos 1) ∷ []))
+    (call_fill a)
+
+pub record NamesAreOneForm : Type 0 where
+  pub by_name :
+      called (fill_view (Alone w))
+      ≡ hold (pos 1 ∷ pos 5 ∷ pos 5 ∷ pos 4 ∷ pos 5 ∷ pos 6 ∷ [])
+  pub by_number :
+      called (fill_view (Control64 (Named w)))
+      ≡ hold (pos 1 ∷ pos 5 ∷ pos 5 ∷ pos 4 ∷ pos 5 ∷ pos 6 ∷ [])
+  pub no_window : called (call_fill (Control64 (Named x))) ≡ Fault

@@ -229,6 +229,8 @@ select32 x v y z = if int_lt (wrap I32 x) (wrap I32 v) then y else z
 abbrev pub as_unsigned : Value → Value
 as_unsigned = with_one (λ n. n)
 
+-- A literal is one of data, and so below 2 ^ 32, where `nu` is of this type. A read asks for no type
+-- of cell as a store does: a name stands for an array or a window of its own type.
 abbrev pub number32 : Machine → Number32 → Outcome Value
 number32 m (Literal32 n) = Done (Number (unsigned n))
 number32 m (Read32 ref) = after (spot m.setting ref) (λ p. Done (as_unsigned (m.contents p.object p.offset)))

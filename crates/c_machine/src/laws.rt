@@ -1,6 +1,6 @@
 //! Laws of the C machine, each the contract of a function with nothing to do.
 
-ghost use Rattle.c_machine.specs.Examples.{NumbersAreChecked, CellsAreChecked, StoresWrap, CallsAreInPlace, VectorsAreCells};
+ghost use Rattle.c_machine.specs.Examples.{NumbersAreChecked, CellsAreChecked, StoresWrap, CallsAreInPlace, VectorsAreCells, NamesAreOneForm};
 
 /// Numbers that do not fit 64 bits and zero divisors are faults; division rounds down.
 pub fn numbers_are_checked()
@@ -29,4 +29,9 @@ pub fn calls_are_in_place()
 /// cells of its allocation.
 pub fn vectors_are_cells()
     ensures { VectorsAreCells }
+{}
+
+/// A name alone is one argument, written as a number or as a name: it gives what the name stands for.
+pub fn names_are_one_form()
+    ensures { NamesAreOneForm }
 {}

@@ -75,7 +75,7 @@ view_stands naming x l (Some (BufferName cell rank dense)) f cs h k e =
 module _ (g : Ground) (all : List Binder) (names : AreNamed g all) (fields : ℕ → Option Kind) (memories : ℕ) (kinds : List MemoryKind) (callees : ℕ → Option Callee) (given : Raises) where
   -- what is known of memories and of the procedures above
   pub record KnowsUnit : Type 0 where
-    pub stack : (k : ℕ) (most : ℕ → ℕ) (dims : List Control) → fits_stack (slice_get kinds k) most dims ≡ true → (g.naming.memory k).stack ≡ true → fits_cells most 1 (without_lanes (g.naming.memory k).lanes dims) ≡ true
+    pub stack : (k : ℕ) (most : ℕ → ℕ) (dims : List Control) → fits_stack (slice_get kinds k) most dims ≡ true → (g.naming.memory k).stack ≡ true → fits_cells most (without_lanes (g.naming.memory k).lanes dims) ≡ true
     pub params : (k : ℕ) (c : Callee) → callees k ≡ Some c → c.procedure.params ≡ (g.naming.routine k).params
     pub within : (k : ℕ) (c : Callee) → callees k ≡ Some c → AreWithin (g.bounds k) (given k) 0 (g.naming.routine k).params
 

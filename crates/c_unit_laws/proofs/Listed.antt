@@ -109,11 +109,11 @@ own_is : (l : ℕ) (ds : List Control) → own_dims l ds ≡ without_lanes l ds
 own_is zero ds = refl
 own_is (suc l) ds = front_is ds
 
-pub stack_fits : (o : Option MemoryKind) (most : ℕ → ℕ) (ds : List Control) → fits_stack o most ds ≡ true → (memory_of o).stack ≡ true → fits_cells most 1 (without_lanes (memory_of o).lanes ds) ≡ true
+pub stack_fits : (o : Option MemoryKind) (most : ℕ → ℕ) (ds : List Control) → fits_stack o most ds ≡ true → (memory_of o).stack ≡ true → fits_cells most (without_lanes (memory_of o).lanes ds) ≡ true
 stack_fits None most ds h s = absurd (true≢false (sym s))
 stack_fits (Some m) most ds h s =
-    ap (fits_cells most 1) (sym (own_is m.lanes ds))
-    ∙ subst (λ t. cond t (fits_cells most 1 (own_dims m.lanes ds)) true ≡ true) s h
+    ap (fits_cells most) (sym (own_is m.lanes ds))
+    ∙ subst (λ t. cond t (fits_cells most (own_dims m.lanes ds)) true ≡ true) s h
 
 -- ---- how many names there are
 

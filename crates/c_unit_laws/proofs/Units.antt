@@ -101,7 +101,7 @@ module _ (program : Program) (what : List Printing) (unit : IsUnit program) (low
     pub record IsNaming (naming : Naming) (ks : List MemoryKind) : Type 0 where
       pub names : AreNamed (ground_of program what naming k p) (all_binders p)
       pub params : (j : ℕ) → (naming.routine j).params ≡ (routine_of (slice_get program.procedures j)).params
-      pub stack : (j : ℕ) (bounds : ℕ → ℕ) (dims : List Control) → fits_stack (slice_get ks j) bounds dims ≡ true → (naming.memory j).stack ≡ true → fits_cells bounds 1 (without_lanes (naming.memory j).lanes dims) ≡ true
+      pub stack : (j : ℕ) (bounds : ℕ → ℕ) (dims : List Control) → fits_stack (slice_get ks j) bounds dims ≡ true → (naming.memory j).stack ≡ true → fits_cells bounds (without_lanes (naming.memory j).lanes dims) ≡ true
       pub narrow : is_narrow_block ks most p.body ≡ true
       pub body : IsClear naming (param_homes p.params) p.body
       pub clear : AreClearParams naming p.params

@@ -76,6 +76,17 @@ cube n = Alloc (record { id = 3; name = [] }) I32 (Var n ∷ Var n ∷ Var n ∷
 abbrev pub stacked : List Procedure
 stacked = instruction 0 (cube 0) ∷ function 1 (Call 0 (ControlArg (Var 1) ∷ [])) ∷ []
 
+-- so large a number of cells, but for a dimension of 0
+abbrev pub no_cells : Statement
+no_cells =
+    Alloc (record { id = 3; name = [] }) I32
+    (Lit (pos 2147483647)
+    ∷ Lit (pos 2147483647)
+    ∷ Lit (pos 2147483647)
+    ∷ Lit (pos 0)
+    ∷ [])
+    0
+
 pub record CallsWiden : Type 0 where
   pub fits_alone : widest (unit_of doubled []) (only 0) (only 0) ≡ None
   pub is_given : given_to doubled (λ j. true) 0 0 ≡ 4294967294
@@ -86,3 +97,5 @@ pub record CallsWiden : Type 0 where
       widest (unit_of stacked (stack ∷ [])) (only 1) (with_called stacked 1) ≡ None
   pub printed :
       widest (unit_of (function 0 (cube 0) ∷ []) (stack ∷ [])) (only 0) (only 0) ≡ Some 0
+  pub none_of_many :
+      widest (unit_of (function 0 no_cells ∷ []) (stack ∷ [])) (only 0) (only 0) ≡ None

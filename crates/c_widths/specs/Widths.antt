@@ -69,10 +69,14 @@ is_narrow_setting most (Window x coords) = are_narrow_coords most coords
 
 -- ---- allocations on the stack
 
--- each dimension fits, and so does the number of cells as it is built up from n
-abbrev pub fits_cells : (ℕ → ℕ) → ℕ → List Control → Bool
-fits_cells most n [] = fits n
-fits_cells most n (d ∷ ds) = fits n && is_narrow most d && fits_cells most (n * magnitude most d) ds
+-- how large the number of cells can be: 0 where one dimension is 0, whatever the others are
+abbrev pub cells_magnitude : (ℕ → ℕ) → List Control → ℕ
+cells_magnitude most [] = 1
+cells_magnitude most (d ∷ ds) = magnitude most d * cells_magnitude most ds
+
+-- each dimension fits, and so does the number of cells
+abbrev pub fits_cells : (ℕ → ℕ) → List Control → Bool
+fits_cells most ds = are_narrow most ds && fits (cells_magnitude most ds)
 
 -- in a memory with lanes an allocation consists of vectors along its last dimension
 abbrev pub own_dims : ℕ → List Control → List Control
@@ -83,7 +87,7 @@ own_dims (suc lanes) ds = take (length ds - 1) ds
 -- bounded by what a run may allocate
 abbrev pub fits_stack : Option MemoryKind → (ℕ → ℕ) → List Control → Bool
 fits_stack None most dims = true
-fits_stack (Some m) most dims = if m.stack then fits_cells most 1 (own_dims m.lanes dims) else true
+fits_stack (Some m) most dims = if m.stack then fits_cells most (own_dims m.lanes dims) else true
 
 -- ---- statements
 

@@ -35,7 +35,7 @@ pub fn widest_is_of_the_unit()
 {}
 
 /// A function that is too wide only by what a caller gives it, an instruction that is reached through another one, and a
-/// count of cells on the stack, which is asked in what is printed alone.
+/// count of cells on the stack, which is asked in what is printed alone and is 0 where one dimension is.
 pub fn calls_widen()
     ensures { CallsWiden }
 {}

@@ -53,7 +53,7 @@ fn sum(a: u64, b: u64) -> Option<u64>
 }
 
 /// The magnitude of a product.
-pub(crate) fn product(a: u64, b: u64) -> Option<u64>
+fn product(a: u64, b: u64) -> Option<u64>
     ensures there { is_some result ≡ fits (a * b) }
     ensures value { IfSome result (λ n. n ≡ a * b) }
     ensures small { IfSome result (λ n. n ≤ 4611686018427387904) }

@@ -17,30 +17,27 @@ use crate::expressions::{
     is_narrow_test,
 };
 use crate::given::Given;
-use crate::magnitudes::{Bound, magnitude, product};
+use crate::magnitudes::{Bound, magnitude, within};
 use exo_tree::{Args, Binder, Block, Ctrl, DataExpr, Indices, MemId, Memories, ProcId, Stmt};
 use std::alloc::{AllocError, Global};
 
-/// Whether the dimensions fit, and the number of their cells.
+/// Whether the dimensions fit, and the number of cells, which is 0 where one dimension is 0.
 fn fits_cells(bounds: &[Bound], dims: &[Ctrl]) -> bool
-    ensures { result ≡ fits_cells (most_in bounds.now) 1 (map control dims.now) }
+    ensures { result ≡ fits_cells (most_in bounds.now) (map control dims.now) }
 {
-    let mut n = 1;
+    let mut cells: u64 = 1;
     for d in dims {
         let Some(m) = magnitude(bounds, d) else {
             return false;
         };
-        let Some(next) = product(n, m) else {
-            return false;
-        };
-        n = next;
+        cells = cells.saturating_mul(m);
     }
-    true
+    within(cells).is_some()
 }
 
 /// Whether the number of cells, or of vectors, of an allocation in a memory on the stack fits.
 fn fits_own(bounds: &[Bound], lanes: u32, dims: &Indices) -> bool
-    ensures { result ≡ fits_cells (most_in bounds.now) 1 (own_dims lanes dims.now) }
+    ensures { result ≡ fits_cells (most_in bounds.now) (own_dims lanes dims.now) }
 {
     let all = dims.as_slice();
     if lanes == 0 {

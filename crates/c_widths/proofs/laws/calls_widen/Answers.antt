@@ -10,4 +10,5 @@ returns c = record {
   not_followed = refl;
   not_printed = refl;
   printed = refl;
+  none_of_many = refl;
 }

@@ -1,19 +1,32 @@
-use Rattle.std.proofs.Common.{◌≡◌, ◌∙◌, ◌*◌, ◌+◌, false, map, drop, sym, ap}
-use Rattle.std.proofs.lemmas.Bool.{le-leb}
+use Rattle.std.proofs.Common.{◌∙◌, ◌+◌, ◌*◌, min, map, drop, sym, ap, arith}
 use Rattle.exo_tree.specs.PlainControl.{control}
 use Rattle.c_widths.specs.Bounds.{most_in}
-use Rattle.c_widths.specs.Magnitude.{fits, magnitude}
-use Rattle.c_widths.specs.Widths.{fits_cells}
-use Rattle.c_widths.proofs.Growing.{drop_here}
-use Rattle.c_widths.proofs.Stack.{past}
+use Rattle.c_widths.proofs.Growing.{drop_here, drop_none, nothing_left}
+use Rattle.c_widths.proofs.Stack.{fit_times, fit_once, fit_no_more, fit_more}
 use Rattle.c_widths.proofs.statements.fits_cells.Goals as goal
 
-pub returns-in_default-product : goal.returns-in_default-product
-returns-in_default-product c =
+pub loop-d-init : goal.loop-d-init
+loop-d-init c =
+    let most = most_in c.args.bounds.now in
+    ap (λ l. fit_times most 1 (map control l)) (drop_none c.args.dims.now)
+    ∙ fit_once most (map control c.args.dims.now)
+
+pub loop-d-preserved : goal.loop-d-preserved
+loop-d-preserved c =
     let most = most_in c.args.bounds.now in
     let d = control c.d-item.result in
     let rest = map control (drop (c.loop-d.d-index + 1) c.args.dims.now) in
-    let large : fits (c.loop-d.n * magnitude most d) ≡ false = ap (λ m. fits (c.loop-d.n * m)) (sym c.in-Some.ensures.value) ∙ sym c.in_default-product.ensures.there in
-    sym (past most c.loop-d.n d rest (le-leb c.loop-d.n 4611686018427387904 c.loop-d.invariant.small) (sym c.in-Some.ensures.there) large)
-    ∙ sym (ap (λ l. fits_cells most c.loop-d.n (map control l)) (drop_here c.args.dims.now c.loop-d.d-index c.d-item.result c.loop-d-test.true c.d-item.is))
-    ∙ c.loop-d.invariant.left
+    let here = drop_here c.args.dims.now c.loop-d.d-index c.d-item.result c.loop-d-test.true c.d-item.is in
+    fit_more most c.loop-d.cells c.saturating_mul.result d rest
+    (c.saturating_mul.ensures ∙ ap (λ m. min (c.loop-d.cells * m) 18446744073709551615) c.in-Some.ensures.value)
+    (sym c.in-Some.ensures.there)
+    ∙ sym (ap (λ l. fit_times most c.loop-d.cells (map control l)) here)
+    ∙ c.loop-d.invariant
+
+pub returns : goal.returns
+returns c =
+    let most = most_in c.args.bounds.now in
+    c.within.ensures.there
+    ∙ fit_no_more most c.loop-d.cells
+    ∙ sym (ap (λ l. fit_times most c.loop-d.cells (map control l)) (nothing_left c.loop-d.d-index c.args.dims.now (omega arith)))
+    ∙ c.loop-d.invariant

@@ -6,4 +6,4 @@ use Rattle.c_widths.proofs.Stack.{own_part}
 use Rattle.c_widths.proofs.statements.fits_own.Goals as goal
 
 pub returns : goal.returns
-returns c = c.fits_cells-2.ensures ∙ ap (fits_cells (most_in c.args.bounds.now) 1) (ap (λ n. map control (take n c.as_slice-all.result.now)) c.saturating_sub.ensures ∙ own_part control c.args.lanes c.as_slice-all.result.now c.args.dims.now c.if-lanes-eq0.false c.as_slice-all.ensures)
+returns c = c.fits_cells-2.ensures ∙ ap (fits_cells (most_in c.args.bounds.now)) (ap (λ n. map control (take n c.as_slice-all.result.now)) c.saturating_sub.ensures ∙ own_part control c.args.lanes c.as_slice-all.result.now c.args.dims.now c.if-lanes-eq0.false c.as_slice-all.ensures)
