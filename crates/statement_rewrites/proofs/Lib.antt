@@ -1,5 +1,6 @@
 pub mod Made
 pub mod Neighbouring
+pub mod Unwritten
 pub mod OwnSeen
 pub mod Ends
 pub mod Lifted

@@ -11,17 +11,18 @@ ghost use Rattle.proc_laws.specs.Statement.Fields.{some_field};
 ghost use Rattle.proc_laws.specs.Statement.RemoveLoop as plain;
 ghost use Rattle.step_driver.specs.PlainTarget.{target, plain_piece};
 ghost use Rattle.step_driver.specs.Spots.{spot_at};
-ghost use Rattle.step_fields.specs.Fields.{written_in, read_in};
+ghost use Rattle.step_driver.specs.Tables.{HasTables};
+ghost use Rattle.step_fields.specs.Fields.{IsWrittenTable, written_in, read_in};
 ghost use Rattle.step_needs.specs.Outcomes.{Refuses};
 ghost use Rattle.step_targets.specs.PlainLoop.{plain_loop};
 
+use config_state::FieldTable;
 use cursor_forward::StepError;
-use exo_modes::ModeTable;
 use exo_tree::{Block, Unit};
 use piece_modes::sees_own_root;
 use std::alloc::{AllocError, Global};
 use step_driver::{Piece, Target};
-use step_fields::{have_common, may_read, may_write};
+use step_fields::{have_common, is_some, may_read, may_write};
 use step_targets::{Alone, LoopAt, loop_at};
 use tree_mentions::in_block;
 
@@ -53,10 +54,19 @@ pub(crate) fn removable_at<'a>(on: &Target<'a>, piece: &Piece) -> Option<LoopAt<
 }
 
 /// Whether a block may read a field that it may write, directly or by calls.
-fn sees_own_field(alloc: Global, unit: &Unit, b: &Block) -> Result<bool, AllocError>
+fn sees_own_field(
+    alloc: Global,
+    unit: &Unit,
+    writes: &FieldTable,
+    b: &Block,
+) -> Result<bool, AllocError>
+    requires { IsWrittenTable (program unit.now) writes.now }
     ensures { IfOk result (λ r. r ≡ some_field (program unit.now).fields (λ f. written_in (program unit.now) (block b.now) f && read_in (program unit.now) (block b.now) f)) }
 {
-    let written = may_write(alloc, unit, b)?;
+    let written = may_write(alloc, unit, writes, b)?;
+    if !is_some(&written) {
+        return Ok(false);
+    }
     let read = may_read(alloc, unit, b)?;
     Ok(have_common(&written, &read))
 }
@@ -69,10 +79,18 @@ fn sees_outside(
     piece: &Piece,
     b: &Block,
 ) -> Result<bool, AllocError>
+    requires { HasTables on.now }
     ensures { IfOk result (λ r. r ≡ seen.sees_own_root (program on.now.unit.now) (procedure on.now.proc.now) (around_of (opened piece.now.count piece.now.path (procedure on.now.proc.now).body)) (block b.now)) }
 {
-    let modes = ModeTable::new(alloc, on.unit)?;
-    let found = sees_own_root(alloc, on.unit, &modes, on.proc, &piece.path, piece.count, b)?;
+    let found = sees_own_root(
+        alloc,
+        on.unit,
+        on.modes,
+        on.proc,
+        &piece.path,
+        piece.count,
+        b,
+    )?;
     Ok(found)
 }
 
@@ -84,10 +102,11 @@ fn sees_own(
     piece: &Piece,
     l: &LoopAt<'_>,
 ) -> Result<bool, AllocError>
+    requires { HasTables on.now }
     ensures { IfOk result (λ r. r ≡ plain.sees_own (spot_at (target on.now) (plain_piece piece.now)) (plain_loop l.now)) }
 {
     let root = sees_outside(alloc, on, piece, l.body)?;
-    let field = sees_own_field(alloc, on.unit, l.body)?;
+    let field = sees_own_field(alloc, on.unit, on.writes, l.body)?;
     Ok(root || field)
 }
 
@@ -98,6 +117,7 @@ pub(crate) fn unless_it_sees_own(
     piece: &Piece,
     l: &LoopAt<'_>,
 ) -> Result<(), StepError>
+    requires { HasTables on.now }
     ensures { Refuses (plain.remove_refusal (spot_at (target on.now) (plain_piece piece.now)) (Some (plain_loop l.now))) result }
 {
     if sees_own(alloc, on, piece, l)? {

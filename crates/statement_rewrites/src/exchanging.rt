@@ -35,7 +35,7 @@ impl Ruled for Exchanging {
         let old = on.statements(alloc, piece)?;
         match neighbours_of(&old) {
             None => Ok(()),
-            Some(n) => n.unless_they_share(alloc, on.unit),
+            Some(n) => n.unless_they_share(alloc, on.unit, on.writes),
         }
     }
 }

@@ -13,7 +13,8 @@ ghost use Rattle.proc_laws.specs.Statement.Fields.{some_field};
 ghost use Rattle.proc_laws.specs.Statement.LiftScope as plain;
 ghost use Rattle.step_driver.specs.PlainTarget.{target, plain_piece};
 ghost use Rattle.step_driver.specs.Spots.{spot_at};
-ghost use Rattle.step_fields.specs.Fields.{IsFieldSet, written_in};
+ghost use Rattle.step_driver.specs.Tables.{HasTables};
+ghost use Rattle.step_fields.specs.Fields.{IsFieldSet, IsWrittenTable, written_in};
 ghost use Rattle.step_needs.specs.Outcomes.{Refuses};
 ghost use Rattle.step_rules.specs.Shapes.{alone_in};
 ghost use Rattle.step_targets.specs.PlainLoop.{plain_loop};
@@ -21,7 +22,7 @@ ghost use Rattle.statement_rewrites.specs.PlainFork.{plain_fork};
 ghost use Rattle.statement_rewrites.specs.PlainLifting.{plain_lifting};
 
 use crate::forks::{ForkAt, fork_in};
-use config_state::{FieldSet, add_condition};
+use config_state::{FieldSet, FieldTable, add_condition};
 use cursor_forward::{Shifts, StepError};
 use exo_tree::{Arg, Block, Branch, Cond, Path, Step, Stmt, Unit};
 use made_trees::Fresh;
@@ -205,11 +206,18 @@ fn fields_read(alloc: Global, unit: &Unit, c: &Cond) -> Result<FieldSet, AllocEr
 }
 
 /// Whether a condition reads a field that a block may write, directly or by calls.
-fn writes_read(alloc: Global, unit: &Unit, c: &Cond, b: &Block) -> Result<bool, AllocError>
+fn writes_read(
+    alloc: Global,
+    unit: &Unit,
+    writes: &FieldTable,
+    c: &Cond,
+    b: &Block,
+) -> Result<bool, AllocError>
+    requires { IsWrittenTable (program unit.now) writes.now }
     ensures { IfOk result (λ r. r ≡ some_field (program unit.now).fields (λ f. read_by_condition f (condition c.now) && written_in (program unit.now) (block b.now) f)) }
 {
     let read = fields_read(alloc, unit, c)?;
-    let written = may_write(alloc, unit, b)?;
+    let written = may_write(alloc, unit, writes, b)?;
     Ok(have_common(&read, &written))
 }
 
@@ -312,15 +320,16 @@ impl LiftableAt<'_> {
         on: &Target<'_>,
         piece: &Piece,
     ) -> Result<bool, AllocError>
+        requires { HasTables on.now }
         ensures { IfOk result (λ r. r ≡ plain.changes_condition (spot_at (target on.now) (plain_piece piece.now)) (plain_lifting self.now)) }
     {
         match self {
             LiftableAt::OutOfLoop(_, k) => {
                 let body = k.alone(alloc)?;
-                writes_read(alloc, on.unit, k.test, &body)
+                writes_read(alloc, on.unit, on.writes, k.test, &body)
             }
             LiftableAt::OutOfBranch(_, _) => Ok(false),
-            LiftableAt::LoopOut(c, l) => writes_read(alloc, on.unit, c, l.body),
+            LiftableAt::LoopOut(c, l) => writes_read(alloc, on.unit, on.writes, c, l.body),
         }
     }
 
@@ -331,6 +340,7 @@ impl LiftableAt<'_> {
         on: &Target<'_>,
         piece: &Piece,
     ) -> Result<(), StepError>
+        requires { HasTables on.now }
         ensures { Refuses (plain.lift_refusal (spot_at (target on.now) (plain_piece piece.now)) (Some (plain_lifting self.now))) result }
     {
         if self.changes_condition(alloc, on, piece)? {

@@ -11,14 +11,14 @@ ghost use Rattle.proc_laws.specs.Statement.Fields.{some_field};
 ghost use Rattle.proc_laws.specs.Statement.ReorderStatements as plain;
 ghost use Rattle.step_needs.specs.Outcomes.{Refuses};
 ghost use Rattle.step_needs.specs.PlainNeed.{plain_turns, plain_conflict, plain_need};
-ghost use Rattle.step_fields.specs.Fields.{IsFieldSet};
+ghost use Rattle.step_fields.specs.Fields.{IsFieldSet, IsWrittenTable};
 ghost use Rattle.statement_rewrites.specs.PlainNeighbours.{plain_neighbours, used_by, writes_used};
 
-use config_state::FieldSet;
+use config_state::{FieldSet, FieldTable};
 use cursor_forward::StepError;
 use exo_tree::{Block, Id, Path, Stmt, Unit};
 use std::alloc::{AllocError, Global};
-use step_fields::{have_common, statement_may_read, statement_may_write};
+use step_fields::{have_common, is_some, statement_may_read, statement_may_write};
 use step_needs::{Conflict, Need, Turns};
 use step_targets::{apart, binds, path_onward};
 use tree_mentions::{Names, in_block};
@@ -64,21 +64,32 @@ pub(crate) fn neighbours_of(b: &Block) -> Option<Neighbours<'_>>
 
 /// The fields that a statement may write or read, directly or by calls.
 #[tactic(auto, using(crate::proofs::Neighbouring::both_used))]
-fn used(alloc: Global, unit: &Unit, s: &Stmt) -> Result<FieldSet, AllocError>
+fn used(alloc: Global, unit: &Unit, writes: &FieldTable, s: &Stmt) -> Result<FieldSet, AllocError>
+    requires { IsWrittenTable (program unit.now) writes.now }
     ensures { IfOk result (λ set. IsFieldSet (length (program unit.now).fields) (used_by (program unit.now) (statement s.now)) set) }
 {
-    let mut used = statement_may_write(alloc, unit, s)?;
+    let mut used = statement_may_write(alloc, unit, writes, s)?;
     let read = statement_may_read(alloc, unit, s)?;
     used.unite(&read);
     Ok(used)
 }
 
 /// Whether a statement may write a field that another one may write or read.
-fn writes_used(alloc: Global, unit: &Unit, a: &Stmt, b: &Stmt) -> Result<bool, AllocError>
+fn writes_used(
+    alloc: Global,
+    unit: &Unit,
+    writes: &FieldTable,
+    a: &Stmt,
+    b: &Stmt,
+) -> Result<bool, AllocError>
+    requires { IsWrittenTable (program unit.now) writes.now }
     ensures { IfOk result (λ r. r ≡ some_field (program unit.now).fields (writes_used (program unit.now) (statement a.now) (statement b.now))) }
 {
-    let written = statement_may_write(alloc, unit, a)?;
-    let used = used(alloc, unit, b)?;
+    let written = statement_may_write(alloc, unit, writes, a)?;
+    if !is_some(&written) {
+        return Ok(false);
+    }
+    let used = used(alloc, unit, writes, b)?;
     Ok(have_common(&written, &used))
 }
 
@@ -115,19 +126,31 @@ impl Neighbours<'_> {
     }
 
     /// Whether one of them may write a field that the other may write or read.
-    fn share_field(&self, alloc: Global, unit: &Unit) -> Result<bool, AllocError>
+    fn share_field(
+        &self,
+        alloc: Global,
+        unit: &Unit,
+        writes: &FieldTable,
+    ) -> Result<bool, AllocError>
+        requires { IsWrittenTable (program unit.now) writes.now }
         ensures { IfOk result (λ r. r ≡ some_field (program unit.now).fields (λ f. plain.share_field (program unit.now).procedures f (plain_neighbours self.now))) }
     {
-        let by_first = writes_used(alloc, unit, self.first, self.second)?;
-        let by_second = writes_used(alloc, unit, self.second, self.first)?;
+        let by_first = writes_used(alloc, unit, writes, self.first, self.second)?;
+        let by_second = writes_used(alloc, unit, writes, self.second, self.first)?;
         Ok(by_first || by_second)
     }
 
     /// `ConfigWrite` where one of them may write a field that the other may write or read.
-    pub(crate) fn unless_they_share(&self, alloc: Global, unit: &Unit) -> Result<(), StepError>
+    pub(crate) fn unless_they_share(
+        &self,
+        alloc: Global,
+        unit: &Unit,
+        writes: &FieldTable,
+    ) -> Result<(), StepError>
+        requires { IsWrittenTable (program unit.now) writes.now }
         ensures { Refuses (if some_field (program unit.now).fields (λ f. plain.share_field (program unit.now).procedures f (plain_neighbours self.now)) then Some ConfigWrite else None) result }
     {
-        if self.share_field(alloc, unit)? {
+        if self.share_field(alloc, unit, writes)? {
             return Err(StepError::ConfigWrite);
         }
         Ok(())

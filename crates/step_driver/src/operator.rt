@@ -8,6 +8,7 @@ ghost use Rattle.step_needs.specs.PlainNeed.{plain_need};
 ghost use Rattle.step_driver.specs.PlainTarget.{target, plain_piece};
 ghost use Rattle.step_driver.specs.PlainExit.{plain_exit};
 ghost use Rattle.step_driver.specs.Spots.{spot_at, exit_of};
+ghost use Rattle.step_driver.specs.Tables.{HasTables};
 
 use crate::target::{Piece, Target};
 use cursor_forward::{Shifts, Side, StepError};
@@ -75,6 +76,7 @@ pub trait Operator {
 
     /// Why it is refused there.
     fn refusal(&self, alloc: Global, on: &Target<'_>, piece: &Piece) -> Result<(), StepError>
+        requires { HasTables on.now }
         ensures { Refuses ((rule self.now).refusal (spot_at (target on.now) (plain_piece piece.now))) result };
 
     /// What has to be shown of the old procedure, in its order, before the result stands for it.

@@ -3,7 +3,7 @@ use Rattle.std.specs.Prelude.{◌≡◌, ◌<◌, ℕ, Bool, true, false, List, 
 use Rattle.exo_tree.specs.Tree.{Statement, Block, Program}
 use Rattle.meaning_laws.specs.Fields.{writes_field, step_writes_field}
 use Rattle.meaning_laws.specs.UnitFields.{unit_writes}
-use Rattle.config_state.specs.FieldSets.{contains, fields_where}
+use Rattle.config_state.specs.FieldSets.{contains, fields_where, IsTable}
 use Rattle.config_state.specs.Reads.{reads_field, step_reads_field, unit_reads}
 
 -- of a unit with so many fields, the set has those that pass the test
@@ -25,6 +25,10 @@ module _ (u : Program) where
 
   abbrev pub read_by : Statement → ℕ → Bool
   read_by a f = step_reads_field (unit_reads u.procedures) f a
+
+-- the table says of each procedure which fields it may write
+abbrev pub IsWrittenTable : Program → List (List Bool) → Type 0
+IsWrittenTable u table = IsTable (length u.fields) (unit_writes u.procedures) table
 
 -- ---- one of the fields
 

@@ -3,21 +3,26 @@ ghost use Rattle.std.specs.Prelude.{◌≡◌, length, IfOk};
 ghost use Rattle.exo_tree.specs.Tree.{block};
 ghost use Rattle.exo_tree.specs.PlainStatement.{statement};
 ghost use Rattle.exo_tree.specs.PlainUnit.{program};
-ghost use Rattle.step_fields.specs.Fields.{IsFieldSet, some_where, written_in, read_in, written_by, read_by};
+ghost use Rattle.step_fields.specs.Fields.{IsFieldSet, IsWrittenTable, some_where, written_in, read_in, written_by, read_by};
 
 use crate::some::is_some;
-use config_state::{FieldSet, add_read, add_written, read_table, written_table};
+use config_state::{FieldSet, FieldTable, add_read, add_written, read_table};
 use exo_tree::{Block, Stmt, Unit};
 use std::alloc::{AllocError, Global};
 
-/// The fields that a block may write, directly or by calls.
+/// The fields that a block may write, directly or by calls. The table is that of the unit.
 #[tactic(auto, using(crate::proofs::Sets::written_set))]
-pub fn may_write(alloc: Global, unit: &Unit, b: &Block) -> Result<FieldSet, AllocError>
+pub fn may_write(
+    alloc: Global,
+    unit: &Unit,
+    writes: &FieldTable,
+    b: &Block,
+) -> Result<FieldSet, AllocError>
+    requires { IsWrittenTable (program unit.now) writes.now }
     ensures { IfOk result (λ s. IsFieldSet (length (program unit.now).fields) (written_in (program unit.now) (block b.now)) s) }
 {
-    let table = written_table(alloc, unit)?;
     let mut set = FieldSet::empty(alloc, unit.fields.len())?;
-    add_written(b, &table, &mut set);
+    add_written(b, writes, &mut set);
     Ok(set)
 }
 
@@ -32,13 +37,19 @@ pub fn may_read(alloc: Global, unit: &Unit, b: &Block) -> Result<FieldSet, Alloc
     Ok(set)
 }
 
-/// The fields that a statement may write, directly or by calls.
+/// The fields that a statement may write, directly or by calls. The table is that of the unit.
 #[tactic(auto, using(crate::proofs::Sets::written_alone))]
-pub fn statement_may_write(alloc: Global, unit: &Unit, s: &Stmt) -> Result<FieldSet, AllocError>
+pub fn statement_may_write(
+    alloc: Global,
+    unit: &Unit,
+    writes: &FieldTable,
+    s: &Stmt,
+) -> Result<FieldSet, AllocError>
+    requires { IsWrittenTable (program unit.now) writes.now }
     ensures { IfOk result (λ set. IsFieldSet (length (program unit.now).fields) (written_by (program unit.now) (statement s.now)) set) }
 {
     let alone = Block::single(alloc, s.duplicate(alloc)?)?;
-    may_write(alloc, unit, &alone)
+    may_write(alloc, unit, writes, &alone)
 }
 
 /// The fields that a statement may read, directly or by calls.
@@ -50,10 +61,16 @@ pub fn statement_may_read(alloc: Global, unit: &Unit, s: &Stmt) -> Result<FieldS
     may_read(alloc, unit, &alone)
 }
 
-/// Whether a block may write a field, directly or by calls.
-pub fn writes_some(alloc: Global, unit: &Unit, b: &Block) -> Result<bool, AllocError>
+/// Whether a block may write a field, directly or by calls. The table is that of the unit.
+pub fn writes_some(
+    alloc: Global,
+    unit: &Unit,
+    writes: &FieldTable,
+    b: &Block,
+) -> Result<bool, AllocError>
+    requires { IsWrittenTable (program unit.now) writes.now }
     ensures { IfOk result (λ r. r ≡ some_where (length (program unit.now).fields) (written_in (program unit.now) (block b.now))) }
 {
-    let written = may_write(alloc, unit, b)?;
+    let written = may_write(alloc, unit, writes, b)?;
     Ok(is_some(&written))
 }

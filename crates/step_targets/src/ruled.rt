@@ -6,6 +6,7 @@ ghost use Rattle.step_rules.specs.Lawful.{IsLawful, IsCarrying};
 ghost use Rattle.step_needs.specs.Outcomes.{Refuses};
 ghost use Rattle.step_driver.specs.PlainTarget.{target, plain_piece};
 ghost use Rattle.step_driver.specs.Spots.{spot_at};
+ghost use Rattle.step_driver.specs.Tables.{HasTables};
 ghost use Rattle.step_targets.specs.Kinds.{quietly, plainly};
 
 use cursor_forward::StepError;
@@ -23,6 +24,7 @@ pub trait Ruled {
 
     /// Why it is refused there, besides the shape.
     fn refusal(&self, alloc: Global, on: &Target<'_>, piece: &Piece) -> Result<(), StepError>
+        requires { HasTables on.now }
         ensures { Refuses
             ((rule self.now).refusal (spot_at (target on.now) (plain_piece piece.now)))
             result };

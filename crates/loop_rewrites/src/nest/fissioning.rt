@@ -93,7 +93,7 @@ impl Ruled for Fissioning {
         match parting_at(alloc, on, piece, self.count)? {
             None => Ok(()),
             Some(p) => {
-                if p.writes_first(alloc, on.unit)? {
+                if p.writes_first(alloc, on.unit, on.writes)? {
                     return Ok(());
                 }
                 unless_it_writes(alloc, on, piece)

@@ -3,11 +3,13 @@ ghost use Rattle.std.specs.Prelude.{◌≡◌, ◌==◌, option_map, option_and_
 ghost use Rattle.exo_tree.specs.Tree.{block};
 ghost use Rattle.exo_tree.specs.PlainStatement.{statement};
 ghost use Rattle.exo_tree.specs.PlainUnit.{program};
+ghost use Rattle.step_fields.specs.Fields.{IsWrittenTable};
 ghost use Rattle.step_rules.specs.Shapes.{alone_in};
 ghost use Rattle.loop_laws.specs.Nest.Fission as plain;
 ghost use Rattle.loop_rewrites.specs.Nest.PlainParting.{plain_parting, plain_write};
 
 use crate::nest::parting::PartingAt;
+use config_state::FieldTable;
 use exo_tree::{Arg, Block, FieldId, Id, Stmt, Unit};
 use std::alloc::{AllocError, Global};
 use step_fields::may_write;
@@ -63,7 +65,14 @@ impl PartingAt<'_> {
     /// Whether a write has not the loop's variable, and is of a field that the second part does not
     /// write.
     #[tactic(auto, using(crate::proofs::OfNest::Written::in_set, crate::proofs::OfNest::Written::no_field))]
-    fn is_steady(&self, alloc: Global, unit: &Unit, w: &WriteAt<'_>) -> Result<bool, AllocError>
+    fn is_steady(
+        &self,
+        alloc: Global,
+        unit: &Unit,
+        writes: &FieldTable,
+        w: &WriteAt<'_>,
+    ) -> Result<bool, AllocError>
+        requires { IsWrittenTable (program unit.now) writes.now }
         ensures { IfOk result (λ t. t
             ≡ plain.is_steady (program unit.now) (plain_parting self.now) (plain_write w.now)) }
     {
@@ -71,7 +80,7 @@ impl PartingAt<'_> {
         if field >= unit.fields.len() {
             return Ok(false);
         }
-        let written = may_write(alloc, unit, &self.second)?;
+        let written = may_write(alloc, unit, writes, &self.second)?;
         let variable = Variable {
             id: self.whole.binder.id,
         };
@@ -79,13 +88,19 @@ impl PartingAt<'_> {
     }
 
     /// Whether the first part is one such write.
-    pub(crate) fn writes_first(&self, alloc: Global, unit: &Unit) -> Result<bool, AllocError>
+    pub(crate) fn writes_first(
+        &self,
+        alloc: Global,
+        unit: &Unit,
+        writes: &FieldTable,
+    ) -> Result<bool, AllocError>
+        requires { IsWrittenTable (program unit.now) writes.now }
         ensures { IfOk result (λ t. t
             ≡ plain.writes_first (program unit.now) (plain_parting self.now)) }
     {
         match write_of(&self.first) {
             None => Ok(false),
-            Some(w) => self.is_steady(alloc, unit, &w),
+            Some(w) => self.is_steady(alloc, unit, writes, &w),
         }
     }
 }

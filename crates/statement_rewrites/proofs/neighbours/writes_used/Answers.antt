@@ -3,7 +3,15 @@ use Rattle.exo_tree.specs.PlainStatement.{statement}
 use Rattle.exo_tree.specs.PlainUnit.{program}
 use Rattle.step_fields.specs.Fields.{written_by}
 use Rattle.statement_rewrites.specs.PlainNeighbours.{used_by}
+use Rattle.statement_rewrites.proofs.Unwritten.{none_shared}
 use Rattle.statement_rewrites.proofs.neighbours.writes_used.Goals as goal
+
+pub returns-then-not-is_some : goal.returns-then-not-is_some
+returns-then-not-is_some c =
+    let u = program c.args.unit.now in
+    let written = written_by u (statement c.args.a.now) in
+    none_shared (length u.fields) written (used_by u (statement c.args.b.now)) c.is_some.result
+    (c.is_some.ensures (length u.fields) written c.in_ok-written.ensures) c.if-not-is_some.true
 
 pub returns : goal.returns
 returns c =
