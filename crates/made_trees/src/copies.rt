@@ -4,6 +4,7 @@ ghost use Rattle.exo_tree.specs.Tree.{block};
 ghost use Rattle.exo_tree.specs.PlainProcedure.{procedure};
 ghost use Rattle.made_trees.specs.Names as names;
 
+use crate::ids::are_old;
 use crate::naming::Walk;
 use exo_tree::{Binder, Block, Ctrl, Id, Leaves, Proc};
 use std::alloc::{AllocError, Global};
@@ -44,10 +45,13 @@ impl Leaves for Given {
 /// A new body of a procedure, with names for its copies: a binder with an id from `copies` on keeps
 /// its name where no binder of that name is in scope and none stands at the top level of its own
 /// block, else it gets `x_k` with the least k from 1 on that no binder of the procedure or of the
-/// copies so far has.
+/// copies so far has. A body without copies shares its statements.
 pub fn named_copies(alloc: Global, p: &Proc, copies: u32, b: &Block) -> Result<Block, AllocError>
     ensures { IfOk result (λ c. block c ≡ names.named_copies (procedure p.now) copies (block b.now)) }
 {
+    if are_old(alloc, copies, b)? {
+        return b.duplicate(alloc);
+    }
     let mut walk = Walk::new(alloc, p)?;
     walk.statements(alloc, copies, b)?;
     let Walk { given, .. } = walk;

@@ -1,14 +1,18 @@
 //! The ids of binders.
-ghost use Rattle.std.specs.Prelude.{◌≡◌, ◌≤◌, [], ◌∷◌, map, length, take};
+ghost use Rattle.std.specs.Prelude.{◌≡◌, ◌==◌, ◌≤◌, [], ◌∷◌, ◌++◌, map, length, take, true};
+ghost use Rattle.std.specs.Prelude.{IfOk, IsTrue, OnOk};
+ghost use Rattle.std.specs.List.{list_any};
 ghost use Rattle.exo_tree.specs.Tree.{block};
 ghost use Rattle.exo_tree.specs.PlainParam.{parameter};
 ghost use Rattle.exo_tree.specs.PlainProcedure.{procedure};
 ghost use Rattle.exo_tree.specs.PlainStatement.{statement};
 ghost use Rattle.exo_tree.specs.Renaming.{binders, binders_below};
+ghost use Rattle.exo_meaning.specs.Units as units;
 ghost use Rattle.made_trees.specs.Ids as ids;
 ghost use Rattle.made_trees.specs.Ids.{above_all, param_ids, capped};
 
 use exo_tree::{Block, Id, Param, Proc, Stmt};
+use std::alloc::{AllocError, Global};
 
 /// The number behind an id.
 fn above(x: Id) -> u64
@@ -95,4 +99,75 @@ fn count_one(s: &Stmt) -> usize
         Stmt::Alloc(_, _, _, _) | Stmt::View(_, _, _) => 1,
         _ => 0,
     }
+}
+
+/// Appends the ids of the binders of a block.
+#[cycle(ids)]
+fn put_block(ids: &mut Vec<u32>, b: &Block) -> Result<(), AllocError>
+    ensures { OnOk result (ids.new.items ≡ ids.old.items ++ binders (block b.now)) }
+{
+    for k in 0..b.len() {
+        put_statement(ids, b.statement(k))?;
+    }
+    Ok(())
+}
+
+/// Appends the ids of the binders of a statement.
+#[cycle(ids)]
+fn put_statement(ids: &mut Vec<u32>, s: &Stmt) -> Result<(), AllocError>
+    ensures { OnOk result (ids.new.items ≡ ids.old.items ++ binders_below (statement s.now)) }
+{
+    match s {
+        Stmt::If(_, a, b) => {
+            put_block(ids, a)?;
+            put_block(ids, b)
+        }
+        Stmt::For(i, _, _, b) => {
+            ids.push(i.id.0)?;
+            put_block(ids, b)
+        }
+        Stmt::Alloc(x, _, _, _) | Stmt::View(x, _, _) => {
+            ids.push(x.id.0)?;
+            Ok(())
+        }
+        _ => Ok(()),
+    }
+}
+
+/// Whether an id is one of the list.
+fn is_among(ids: &[u32], x: u32) -> bool
+    ensures { result ≡ list_any (λ y. x == y) ids.now }
+{
+    for y in ids {
+        if x == *y {
+            return true;
+        }
+    }
+    false
+}
+
+/// Whether no id stands twice in the list.
+fn are_distinct(ids: &[u32]) -> bool
+    ensures { result ≡ units.are_distinct ids.now }
+{
+    for k in 0..ids.len() {
+        if is_among(&ids[k + 1..], ids[k]) {
+            return false;
+        }
+    }
+    true
+}
+
+/// Whether the ids that a block binds are all below `copies`, and none is bound twice.
+pub(crate) fn are_old(alloc: Global, copies: u32, b: &Block) -> Result<bool, AllocError>
+    ensures below { IfOk result (λ old. IsTrue old → above_all (binders (block b.now)) ≤ copies) }
+    ensures distinct { IfOk result (λ old.
+        IsTrue old → units.are_distinct (binders (block b.now)) ≡ true) }
+{
+    if above_block(b) > copies as u64 {
+        return Ok(false);
+    }
+    let mut ids = Vec::new(alloc);
+    put_block(&mut ids, b)?;
+    Ok(are_distinct(ids.as_slice()))
 }
