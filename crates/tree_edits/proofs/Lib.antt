@@ -1,2 +1,4 @@
 pub mod Alone
+pub mod Costs
+pub mod Examples
 pub mod Pieces

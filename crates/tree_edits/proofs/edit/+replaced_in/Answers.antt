@@ -1,40 +1,144 @@
-use Rattle.std.proofs.Common.{◌≡◌, map, ap, sym, ◌∙◌}
+use Rattle.std.proofs.Common.{◌≡◌, map, ap, sym, ◌∙◌, arith}
 use Rattle.std.proofs.lemmas.Option.{slice_get-map}
 use Rattle.std.specs.Prelude.{option_map, option_and_then}
 use Rattle.exo_tree.specs.Tree.{block}
-use Rattle.exo_tree.specs.PlainPlace.{step_taken}
+use Rattle.exo_tree.specs.Branches.{branch_of}
+use Rattle.exo_tree.specs.PlainPlace.{branch_taken, step_taken}
+use Rattle.exo_tree.specs.PlainStatement.{statement}
 use Rattle.exo_tree.proofs.Openings.{replaced_in}
 use Rattle.exo_tree.proofs.Edits.{if_ok, IsSpliced, spliced_is, stops, goes_on, inner_within}
+use Rattle.tree_edits.proofs.Costs.{at_block, one_there, some_there}
 use Rattle.tree_edits.proofs.edit.+replaced_in.Goals as goal
 
-pub returns-in-None-first : goal.returns-in-None-first
-returns-in-None-first t c =
+pub returns-in-None-first-clause-with : goal.returns-in-None-first-clause-with
+returns-in-None-first-clause-with g t c =
     let s = c.in-Some.parts.0.now in
     let rest = c.in-Some.parts.1.now in
     let path = map step_taken c.args.path.now in
     if_ok (IsSpliced c.args.b.now s.index c.args.count c.args.with.now) (λ x. option_map block x ≡ replaced_in c.args.count path (block c.args.b.now) (block c.args.with.now))
     (λ x. spliced_is c.args.count (step_taken s) path (map step_taken rest) c.args.b.now c.args.with.now x (ap (map step_taken) c.in-Some.ensures.cases.0) (slice_get-map step_taken rest 0 ∙ ap (option_map step_taken) (sym c.in-None-first.ensures.value)))
-    c.spliced.result c.spliced.ensures
+    c.spliced.result c.spliced.ensures.with
 
-pub returns-in-None-inner : goal.returns-in-None-inner
-returns-in-None-inner t c =
-    let s = c.in-Some.parts.0.now in
-    let rest = c.in-Some.parts.1.now in
-    sym (stops c.args.count (step_taken s) (step_taken c.in-Some-first.next.now) (map step_taken c.args.path.now) (map step_taken rest) c.args.b.now (block c.args.with.now) (ap (map step_taken) c.in-Some.ensures.cases.0) (slice_get-map step_taken rest 0 ∙ ap (option_map step_taken) (sym c.in-Some-first.ensures.value)) (ap (option_and_then (λ b. replaced_in c.args.count (map step_taken rest) b (block c.args.with.now))) (sym c.in-None-inner.ensures)))
-
-pub with_inner-requires : goal.with_inner-requires
-with_inner-requires t c = inner_within (step_taken c.in-Some.parts.0.now) (step_taken c.in-Some-first.next.now) c.args.b.now (block c.in-Some-inner.inner.now) (sym c.in-Some-inner.ensures)
-
-pub returns-in-None-2 : goal.returns-in-None-2
-returns-in-None-2 t c =
+pub returns-in-None-get-clause-with : goal.returns-in-None-get-clause-with
+returns-in-None-get-clause-with g t c =
     let s = c.in-Some.parts.0.now in
     let rest = c.in-Some.parts.1.now in
     let w = block c.args.with.now in
-    sym (stops c.args.count (step_taken s) (step_taken c.in-Some-first.next.now) (map step_taken c.args.path.now) (map step_taken rest) c.args.b.now w (ap (map step_taken) c.in-Some.ensures.cases.0) (slice_get-map step_taken rest 0 ∙ ap (option_map step_taken) (sym c.in-Some-first.ensures.value)) (ap (option_and_then (λ b. replaced_in c.args.count (map step_taken rest) b w)) (sym c.in-Some-inner.ensures) ∙ sym c.in_ok-replaced_in.ensures ∙ ap (option_map block) c.in-None-2.is))
+    let u = step_taken c.in-Some-first.next.now in
+    sym (stops c.args.count (step_taken s) u (map step_taken c.args.path.now) (map step_taken rest) c.args.b.now w (ap (map step_taken) c.in-Some.ensures.cases.0) (slice_get-map step_taken rest 0 ∙ ap (option_map step_taken) (sym c.in-Some-first.ensures.value))
+    (ap (λ x. option_and_then (λ b. replaced_in c.args.count (map step_taken rest) b w) (option_and_then (branch_of u.branch) x)) (sym c.in-None-get.ensures)))
 
-pub returns-in_ok-with_inner-in-Some-2 : goal.returns-in_ok-with_inner-in-Some-2
-returns-in_ok-with_inner-in-Some-2 t c =
+pub returns-in-None-block-clause-with : goal.returns-in-None-block-clause-with
+returns-in-None-block-clause-with g t c =
     let s = c.in-Some.parts.0.now in
     let rest = c.in-Some.parts.1.now in
     let w = block c.args.with.now in
-    goes_on c.args.count (step_taken s) (step_taken c.in-Some-first.next.now) (map step_taken c.args.path.now) (map step_taken rest) c.args.b.now c.in_ok-with_inner-in-Some-2.field-0 w (block c.in-Some-inner.inner.now) (block c.in-Some-2.changed) (ap (map step_taken) c.in-Some.ensures.cases.0) (slice_get-map step_taken rest 0 ∙ ap (option_map step_taken) (sym c.in-Some-first.ensures.value)) (sym c.in-Some-inner.ensures) (sym c.in_ok-replaced_in.ensures ∙ ap (option_map block) c.in-Some-2.is) c.in_ok-with_inner-in-Some-2.ensures
+    let u = step_taken c.in-Some-first.next.now in
+    sym (stops c.args.count (step_taken s) u (map step_taken c.args.path.now) (map step_taken rest) c.args.b.now w (ap (map step_taken) c.in-Some.ensures.cases.0) (slice_get-map step_taken rest 0 ∙ ap (option_map step_taken) (sym c.in-Some-first.ensures.value))
+    (ap (λ x. option_and_then (λ b. replaced_in c.args.count (map step_taken rest) b w) (option_and_then (branch_of u.branch) x)) (sym c.in-Some-get.ensures)
+    ∙ ap (option_and_then (λ b. replaced_in c.args.count (map step_taken rest) b w)) (sym c.in-None-block.ensures)))
+
+pub returns-in-None-2-clause-with : goal.returns-in-None-2-clause-with
+returns-in-None-2-clause-with g t c =
+    let s = c.in-Some.parts.0.now in
+    let rest = c.in-Some.parts.1.now in
+    let w = block c.args.with.now in
+    let u = step_taken c.in-Some-first.next.now in
+    sym (stops c.args.count (step_taken s) u (map step_taken c.args.path.now) (map step_taken rest) c.args.b.now w (ap (map step_taken) c.in-Some.ensures.cases.0) (slice_get-map step_taken rest 0 ∙ ap (option_map step_taken) (sym c.in-Some-first.ensures.value))
+    (ap (λ x. option_and_then (λ b. replaced_in c.args.count (map step_taken rest) b w) (option_and_then (branch_of u.branch) x)) (sym c.in-Some-get.ensures)
+    ∙ ap (option_and_then (λ b. replaced_in c.args.count (map step_taken rest) b w)) (sym c.in-Some-block.ensures)
+    ∙ sym c.in_ok-replaced_in.ensures.with ∙ ap (option_map block) c.in-None-2.is))
+
+pub returns-clause-with : goal.returns-clause-with
+returns-clause-with g t c =
+    let s = c.in-Some.parts.0.now in
+    let rest = c.in-Some.parts.1.now in
+    let w = block c.args.with.now in
+    let u = step_taken c.in-Some-first.next.now in
+    goes_on c.args.count (step_taken s) u (map step_taken c.args.path.now) (map step_taken rest) c.args.b.now c.in_ok-with_one.field-0 w (block c.in-Some-block.inner.now) (block c.in-Some-2.changed) (ap (map step_taken) c.in-Some.ensures.cases.0) (slice_get-map step_taken rest 0 ∙ ap (option_map step_taken) (sym c.in-Some-first.ensures.value))
+    (ap (option_and_then (branch_of u.branch)) (sym c.in-Some-get.ensures) ∙ sym c.in-Some-block.ensures)
+    (sym c.in_ok-replaced_in.ensures.with ∙ ap (option_map block) c.in-Some-2.is)
+    (λ a k. one_there c.args.b.now c.in_ok-one.one c.in_ok-with_one.field-0 s.index u.branch (block c.in-Some-2.changed) (statement c.in-Some-get.s.now) a (statement c.in_ok-with_block.field-0) (sym c.in-Some-get.ensures) k c.in_ok-with_block.ensures.with c.in_ok-one.ensures c.in_ok-with_one.ensures.with)
+
+pub with_one-requires : goal.with_one-requires
+with_one-requires g t c =
+    inner_within (step_taken c.in-Some.parts.0.now) (step_taken c.in-Some-first.next.now) c.args.b.now (block c.in-Some-block.inner.now)
+    (ap (option_and_then (branch_of (branch_taken c.in-Some-first.next.now.branch))) (sym c.in-Some-get.ensures) ∙ sym c.in-Some-block.ensures)
+
+pub returns-in_err-replaced_in-clause-cost : goal.returns-in_err-replaced_in-clause-cost
+returns-in_err-replaced_in-clause-cost g t c =
+    let rest = c.in-Some.parts.1.now in
+    omega (
+      arith,
+      c.replaced_in.ensures.cost,
+      at_block (step_taken c.in-Some.parts.0.now) (step_taken c.in-Some-first.next.now) (map step_taken c.args.path.now) (map step_taken rest) c.args.b.now c.in-Some-block.inner.now (statement c.in-Some-get.s.now)
+          (ap (map step_taken) c.in-Some.ensures.cases.0) (slice_get-map step_taken rest 0 ∙ ap (option_map step_taken) (sym c.in-Some-first.ensures.value)) (sym c.in-Some-get.ensures) (sym c.in-Some-block.ensures),
+    )
+
+pub returns-in-None-2-clause-cost : goal.returns-in-None-2-clause-cost
+returns-in-None-2-clause-cost g t c =
+    let rest = c.in-Some.parts.1.now in
+    omega (
+      arith,
+      c.replaced_in.ensures.cost,
+      at_block (step_taken c.in-Some.parts.0.now) (step_taken c.in-Some-first.next.now) (map step_taken c.args.path.now) (map step_taken rest) c.args.b.now c.in-Some-block.inner.now (statement c.in-Some-get.s.now)
+          (ap (map step_taken) c.in-Some.ensures.cases.0) (slice_get-map step_taken rest 0 ∙ ap (option_map step_taken) (sym c.in-Some-first.ensures.value)) (sym c.in-Some-get.ensures) (sym c.in-Some-block.ensures),
+    )
+
+pub returns-in_err-with_block-clause-cost : goal.returns-in_err-with_block-clause-cost
+returns-in_err-with_block-clause-cost g t c =
+    let rest = c.in-Some.parts.1.now in
+    omega (
+      arith,
+      c.replaced_in.ensures.cost,
+      c.with_block.ensures.cost,
+      at_block (step_taken c.in-Some.parts.0.now) (step_taken c.in-Some-first.next.now) (map step_taken c.args.path.now) (map step_taken rest) c.args.b.now c.in-Some-block.inner.now (statement c.in-Some-get.s.now)
+          (ap (map step_taken) c.in-Some.ensures.cases.0) (slice_get-map step_taken rest 0 ∙ ap (option_map step_taken) (sym c.in-Some-first.ensures.value)) (sym c.in-Some-get.ensures) (sym c.in-Some-block.ensures),
+    )
+
+pub returns-in_err-one-clause-cost : goal.returns-in_err-one-clause-cost
+returns-in_err-one-clause-cost g t c =
+    let rest = c.in-Some.parts.1.now in
+    omega (
+      arith,
+      c.replaced_in.ensures.cost,
+      c.with_block.ensures.cost,
+      at_block (step_taken c.in-Some.parts.0.now) (step_taken c.in-Some-first.next.now) (map step_taken c.args.path.now) (map step_taken rest) c.args.b.now c.in-Some-block.inner.now (statement c.in-Some-get.s.now)
+          (ap (map step_taken) c.in-Some.ensures.cases.0) (slice_get-map step_taken rest 0 ∙ ap (option_map step_taken) (sym c.in-Some-first.ensures.value)) (sym c.in-Some-get.ensures) (sym c.in-Some-block.ensures),
+    )
+
+pub returns-in_err-with_one-clause-cost : goal.returns-in_err-with_one-clause-cost
+returns-in_err-with_one-clause-cost g t c =
+    let rest = c.in-Some.parts.1.now in
+    omega (
+      arith,
+      c.replaced_in.ensures.cost,
+      c.with_block.ensures.cost,
+      c.with_one.ensures.cost,
+      at_block (step_taken c.in-Some.parts.0.now) (step_taken c.in-Some-first.next.now) (map step_taken c.args.path.now) (map step_taken rest) c.args.b.now c.in-Some-block.inner.now (statement c.in-Some-get.s.now)
+          (ap (map step_taken) c.in-Some.ensures.cases.0) (slice_get-map step_taken rest 0 ∙ ap (option_map step_taken) (sym c.in-Some-first.ensures.value)) (sym c.in-Some-get.ensures) (sym c.in-Some-block.ensures),
+    )
+
+pub returns-clause-cost : goal.returns-clause-cost
+returns-clause-cost g t c =
+    let rest = c.in-Some.parts.1.now in
+    omega (
+      arith,
+      c.replaced_in.ensures.cost,
+      c.with_block.ensures.cost,
+      c.with_one.ensures.cost,
+      at_block (step_taken c.in-Some.parts.0.now) (step_taken c.in-Some-first.next.now) (map step_taken c.args.path.now) (map step_taken rest) c.args.b.now c.in-Some-block.inner.now (statement c.in-Some-get.s.now)
+          (ap (map step_taken) c.in-Some.ensures.cases.0) (slice_get-map step_taken rest 0 ∙ ap (option_map step_taken) (sym c.in-Some-first.ensures.value)) (sym c.in-Some-get.ensures) (sym c.in-Some-block.ensures),
+    )
+
+pub returns-clause-exact : goal.returns-clause-exact
+returns-clause-exact g t c =
+    let rest = c.in-Some.parts.1.now in
+    omega (
+      arith,
+      some_there c.in_ok-replaced_in.field-0 c.in-Some-2.changed _ c.in-Some-2.is c.in_ok-replaced_in.ensures.exact,
+      c.with_block.ensures.cost,
+      c.in_ok-with_one.ensures.exact,
+      at_block (step_taken c.in-Some.parts.0.now) (step_taken c.in-Some-first.next.now) (map step_taken c.args.path.now) (map step_taken rest) c.args.b.now c.in-Some-block.inner.now (statement c.in-Some-get.s.now)
+          (ap (map step_taken) c.in-Some.ensures.cases.0) (slice_get-map step_taken rest 0 ∙ ap (option_map step_taken) (sym c.in-Some-first.ensures.value)) (sym c.in-Some-get.ensures) (sym c.in-Some-block.ensures),
+    )

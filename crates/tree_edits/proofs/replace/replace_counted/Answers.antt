@@ -5,20 +5,20 @@ use Rattle.exo_tree.specs.Places.{replaced}
 use Rattle.exo_tree.specs.Heights.{height}
 use Rattle.exo_tree.proofs.Edits.{ok_or_some}
 use Rattle.exo_tree.proofs.Heights.{height_replaced, some_and}
-use Rattle.tree_edits.proofs.replace.replace_at.Goals as goal
+use Rattle.tree_edits.proofs.replace.replace_counted.Goals as goal
 
 pub returns-then-not-fits-clause-too_deep : goal.returns-then-not-fits-clause-too_deep
-returns-then-not-fits-clause-too_deep c = λ e.
+returns-then-not-fits-clause-too_deep g c = λ e.
     let w = block c.args.with.now in
-    let made : replaced c.args.count c.args.path.now (block c.args.p.now.body) w ≡ Some (block c.in_ok-body.body) = sym c.in_ok-replaced.ensures ∙ ap (option_map block) (ok_or_some _ _ c.in_ok-body.body c.in_ok-body.ensures.value) in
+    let made : replaced c.args.count c.args.path.now (block c.args.p.now.body) w ≡ Some (block c.in_ok-body.body) = sym c.in_ok-replaced_counted.ensures.with ∙ ap (option_map block) (ok_or_some _ _ c.in_ok-body.body c.in_ok-body.ensures.value) in
     let size = height_replaced c.args.count c.args.path.now (block c.args.p.now.body) w (block c.in_ok-body.body) c.requires (omega arith) made in
     let over : height w ≤ 33 - c.len.result → ⊥ = λ h. let f : false ≡ true = sym c.if-not-fits.true ∙ c.fits.ensures.1 h in absurd (cc) in
     some_and (λ b. 32 < height b) _ (block c.in_ok-body.body) made (size.1 (omega (arith, over)))
 
 pub returns-clause-fits : goal.returns-clause-fits
-returns-clause-fits c =
+returns-clause-fits g c =
     let w = block c.args.with.now in
-    let made : replaced c.args.count c.args.path.now (block c.args.p.now.body) w ≡ Some (block c.in_ok-body.body) = sym c.in_ok-replaced.ensures ∙ ap (option_map block) (ok_or_some _ _ c.in_ok-body.body c.in_ok-body.ensures.value) in
+    let made : replaced c.args.count c.args.path.now (block c.args.p.now.body) w ≡ Some (block c.in_ok-body.body) = sym c.in_ok-replaced_counted.ensures.with ∙ ap (option_map block) (ok_or_some _ _ c.in_ok-body.body c.in_ok-body.ensures.value) in
     let size = height_replaced c.args.count c.args.path.now (block c.args.p.now.body) w (block c.in_ok-body.body) c.requires (omega arith) made in
     let room : height w ≤ 33 - c.len.result = c.fits.ensures.0 c.if-not-fits.false in
     omega (arith, size.0 (omega arith), ap (λ q. height q.body) c.in_ok-with_body.ensures)

@@ -1,0 +1,4 @@
+use Rattle.tree_edits.proofs.edit.replaced.Given as goal
+
+abbrev pub ghosts-replaced_from : goal.ghosts-replaced_from
+ghosts-replaced_from a = record { name = a.blank.name; parts = a.blank.parts }
