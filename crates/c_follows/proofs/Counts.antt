@@ -83,7 +83,7 @@ module _ (scene : Scene) where
   some_cells most [] h p = omega arith
   some_cells most (d ∷ ds) h p = subst HasSome (sym h.0.1) (of_literal h.0.0) p
     where
-      HasSome : Control → Type 0
+      abbrev HasSome : Control → Type 0
       HasSome c = all_positive (numbers scene (c ∷ ds)) ≡ true → 1 ≤ cells_magnitude most (c ∷ ds)
 
       of_literal : (z : ℤ) → HasSome (Lit z)

@@ -44,10 +44,10 @@ fit_more most n r d ds e h =
     ap (λ t. are_narrow most ds && t) (⊎_elim below above (cases_lt (n * m) 18446744073709551615))
     ∙ sym (ap (λ t. t && are_narrow most ds && fits (n * (m * p))) h)
   where
-    m : ℕ
+    abbrev m : ℕ
     m = magnitude most d
 
-    p : ℕ
+    abbrev p : ℕ
     p = cells_magnitude most ds
 
     behind : n * m * p ≡ n * (m * p)
