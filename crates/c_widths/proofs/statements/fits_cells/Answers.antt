@@ -26,7 +26,8 @@ loop-d-preserved c =
 pub returns : goal.returns
 returns c =
     let most = most_in c.args.bounds.now in
-    c.within.ensures.there
+    c.is_some.ensures
+    ∙ c.within.ensures.there
     ∙ fit_no_more most c.loop-d.cells
     ∙ sym (ap (λ l. fit_times most c.loop-d.cells (map control l)) (nothing_left c.loop-d.d-index c.args.dims.now (omega arith)))
     ∙ c.loop-d.invariant
