@@ -8,3 +8,4 @@ mod Holding
 mod Truths
 mod Answering
 mod Looking
+mod Chunks

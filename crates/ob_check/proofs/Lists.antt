@@ -13,17 +13,6 @@ map_through g f xs ys e = sym (maps g f xs) ∙ ap (map f) e ∙ maps g f ys whe
 pub All-from_contains : {X : Type 0} (P : X → Type 0) (xs : List X) → ((x : X) → Contains xs x → P x) → All P xs
 All-from_contains P xs f k d within = f (get_or xs k d) (k, within, get_or_default xs k (get_or xs k d) d within)
 
--- one chunk more of what is left
-pub chunk_on : {X Y A : Type 0} (f : X → A) (g : Y → A) (all new : List X) (ss : List Y) (start n : ℕ) → map f new ≡ map f all ++ map g (slice_range ss start (start + n)) → map f all ++ map g (drop start ss) ≡ map g ss → map f new ++ map g (drop (start + n) ss) ≡ map g ss
-chunk_on f g all new ss start n h i =
-    let m : start + n - start ≡ n = omega arith in
-    let c : map f new ≡ map f all ++ map g (take n (drop start ss)) = h ∙ ap (λ k. map f all ++ map g (take k (drop start ss))) m in
-    ap (λ xs. xs ++ map g (drop (start + n) ss)) c
-    ∙ append_assoc (map f all) (map g (take n (drop start ss))) (map g (drop (start + n) ss))
-    ∙ ap (λ ys. map f all ++ (map g (take n (drop start ss)) ++ map g ys)) (sym (drop-drop n start ss))
-    ∙ ap (λ xs. map f all ++ xs) (sym (map-append g (take n (drop start ss)) (drop n (drop start ss))) ∙ ap (map g) (take-append-drop n (drop start ss)))
-    ∙ i
-
 -- what holds of a value in either case holds of it
 pub either_way : {X E V : Type 0} (r : Result X E) (Q : V → Type 0) (new made old : V) → OnOk r (new ≡ made) → OnErr r (new ≡ old) → Q made → Q old → Q new
 either_way (Ok x) Q new made old p q k l = subst Q (sym p) k

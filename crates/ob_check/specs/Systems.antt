@@ -1,5 +1,9 @@
 -- The systems of obligations, and which of them a cache does not know.
-use Rattle.std.specs.Prelude.{ℕ, ◌≡◌, Bool, true, false, List, [], ◌∷◌, map, ⊤}
+use Rattle.std.specs.Prelude.{ℕ, ◌≡◌, Bool, true, false, List, [], ◌∷◌, map, Result, ⊤}
+use Rattle.std.specs.declared.alloc.AllocError.{AllocError}
+use Rattle.std.specs.declared.result.Result.TheVariants.{Ok, Err}
+use Rattle.std.specs.declared.vec.Vec.{Vec}
+use Rattle.std.proofs.Common.{Global}
 use Rattle.affine_forms.specs.Affine.{Constraints}
 use Rattle.affine_forms.specs.System.{plain_system}
 use Rattle.affine_systems.specs.declared.obligation.Obligation.{Obligation}
@@ -14,6 +18,11 @@ systems_of os = map (λ o. plain_system o.system) os
 -- the system whose verdict is known
 abbrev pub system_known : Known → Constraints
 system_known k = plain_system k.system.now
+
+-- what a chunk gave, nothing where memory ran out
+abbrev pub known_in : Result (Vec Known Global) AllocError → List Known
+known_in (Ok v) = v.items
+known_in (Err e) = []
 
 -- the system that was looked up
 abbrev pub system_found : Found → Constraints

@@ -1,14 +1,16 @@
-//! The verdicts on systems that no cache knows, chunk by chunk.
-ghost use Rattle.std.specs.Prelude.{◌≡◌, ◌++◌, map, max, IfOk, OnOk};
+//! The verdicts on systems that no cache knows, each chunk of them in a thread.
+ghost use Rattle.std.specs.Prelude.{◌≡◌, ◌<◌, map, flat_map, max, IfOk, IsOk, All};
 ghost use Rattle.std.specs.Int.{div_ceil};
 ghost use Rattle.affine_forms.specs.System.{plain_system};
-ghost use Rattle.ob_check.specs.Systems.{system_known};
+ghost use Rattle.ob_check.specs.Systems.{system_known, known_in};
 
 use crate::gate::Gate;
 use crate::known::Known;
 use affine_forms::System;
 use affine_prover::verdict;
 use std::alloc::{AllocError, Global};
+use std::thread;
+use std::thread::Threads;
 
 /// How many systems a chunk has, but for the last one: a sixteenth of them, and at least 16, so that there are at most 16 chunks.
 fn chunk_size(systems: usize) -> usize
@@ -17,17 +19,17 @@ fn chunk_size(systems: usize) -> usize
     systems.div_ceil(16).max(16)
 }
 
-/// Decides the systems of the chunk of that number, and puts them last.
+/// Decides the systems of the chunk of that number.
 fn decide_chunk<'a, G: Gate>(
     alloc: Global,
     chunk: &[&'a System],
     number: usize,
     gate: &G,
-    all: &mut Vec<Known<'a>>,
-) -> Result<(), AllocError>
-    ensures { OnOk result (map system_known all.new.items ≡ map system_known all.old.items ++ map (λ s. plain_system s.now) chunk.now) }
+) -> Result<Vec<Known<'a>>, AllocError>
+    ensures { IfOk result (λ v. map system_known v.items ≡ map (λ s. plain_system s.now) chunk.now) }
 {
     gate.enter(number);
+    let mut all = Vec::new(alloc);
     for system in chunk {
         let verdict = verdict(alloc, *system)?;
         all.push(Known {
@@ -35,11 +37,28 @@ fn decide_chunk<'a, G: Gate>(
             verdict,
         })?;
     }
-    Ok(())
+    Ok(all)
 }
 
-/// Decides systems, one chunk after the other.
-pub(crate) fn decide_all<'a, G: Gate>(
+/// What the chunks gave, one after the other.
+fn joined<'a>(
+    alloc: Global,
+    chunks: Vec<Result<Vec<Known<'a>>, AllocError>>,
+) -> Result<Vec<Known<'a>>, AllocError>
+    ensures joined { IfOk result (λ v. v.items ≡ flat_map known_in chunks.entry.items) }
+    ensures all { IfOk result (λ _. All IsOk chunks.entry.items) }
+{
+    let mut all = Vec::new(alloc);
+    for part in chunks {
+        let mut more = part?;
+        all.append(&mut more)?;
+    }
+    Ok(all)
+}
+
+/// Decides systems, each chunk in a thread of its own where one can be made.
+pub(crate) fn decide_all<'a, R: Threads + Sync, G: Gate>(
+    rt: &R,
     alloc: Global,
     systems: &[&'a System],
     gate: &G,
@@ -47,14 +66,17 @@ pub(crate) fn decide_all<'a, G: Gate>(
     ensures { IfOk result (λ v. map system_known v.items ≡ map (λ s. plain_system s.now) systems.now) }
 {
     let size = chunk_size(systems.len());
-    let mut all = Vec::new(alloc);
-    let mut start = 0;
-    let mut number = 0;
-    while start < systems.len() {
-        let end = start + size.min(systems.len() - start);
-        decide_chunk(alloc, &systems[start..end], number, gate, &mut all)?;
-        start = end;
-        number += 1;
-    }
-    Ok(all)
+    let chunks = thread::map_chunks(
+        rt,
+        alloc,
+        systems,
+        size,
+        &|start, chunk|
+            requires { 0 < size }
+            ensures {
+                IfOk result (λ v. map system_known v.items ≡ map (λ s. plain_system s.now) chunk.entry.now)
+            }
+        { decide_chunk(alloc, chunk, start / size, gate) },
+    )?;
+    joined(alloc, chunks)
 }

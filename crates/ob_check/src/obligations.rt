@@ -76,7 +76,8 @@ pub fn new_cache(alloc: Global) -> Result<Cache, AllocError>
 }
 
 /// Decides the systems that the cache did not know, in order.
-fn decide_missing<'a, G: Gate>(
+fn decide_missing<'a, R: Threads + Sync, G: Gate>(
+    rt: &R,
     alloc: Global,
     found: &[Found<'a>],
     gate: &G,
@@ -84,16 +85,17 @@ fn decide_missing<'a, G: Gate>(
     ensures { IfOk result (λ v. map system_known v.items ≡ missing_of found.now) }
 {
     let missing = missing(alloc, found)?;
-    decide_all(alloc, &missing, gate)
+    decide_all(rt, alloc, &missing, gate)
 }
 
 /// Decides obligations: whether each system is shown to have no integer point, and else which is the first that is not.
 ///
 /// Each system is looked up in the cache, in order. Those that it does not know are cut into chunks of a sixteenth of their
-/// number, rounded up, and at least 16; the gate is told before the work on a chunk. Then the cache keeps the verdicts on
-/// those of at most 64 rows and equations together, in order. What the cache held changes no answer.
+/// number, rounded up, and at least 16. Each chunk is decided in a thread of its own, where one can be made, and else in
+/// turn; the gate is told before the work on a chunk. Then the cache keeps the verdicts on those of at most 64 rows and
+/// equations together, in order. Neither the threads nor what the cache held change the answer.
 pub fn discharge<R: Threads + Sync, G: Gate>(
-    _rt: &R,
+    rt: &R,
     alloc: Global,
     obs: &[Obligation],
     cache: &mut Cache,
@@ -104,7 +106,7 @@ pub fn discharge<R: Threads + Sync, G: Gate>(
     ensures held { OnOk result (held cache.new ≡ discharged (held cache.old) (systems_of obs.now)) }
 {
     let found = looked_up(alloc, obs, cache)?;
-    let decided = decide_missing(alloc, &found, gate)?;
+    let decided = decide_missing(rt, alloc, &found, gate)?;
     cache.keep_all(alloc, &decided)?;
     Ok(answer(&found, &decided))
 }

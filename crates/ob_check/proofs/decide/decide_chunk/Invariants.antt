@@ -1,7 +1,7 @@
-use Rattle.std.proofs.Common.{◌≡◌, ◌++◌, map, take}
+use Rattle.std.proofs.Common.{◌≡◌, map, take}
 use Rattle.affine_forms.specs.System.{plain_system}
 use Rattle.ob_check.specs.Systems.{system_known}
 use Rattle.ob_check.proofs.decide.decide_chunk.Given as goal
 
 abbrev pub invariant-loop-system : goal.invariant-loop-system
-invariant-loop-system g l = map system_known l.all.items ≡ map system_known l.fn.all.items ++ map (λ s. plain_system s.now) (take l.system-index l.chunk)
+invariant-loop-system g l = map system_known l.all.items ≡ map (λ s. plain_system s.now) (take l.system-index l.chunk)
