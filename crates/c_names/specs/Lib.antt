@@ -3,3 +3,4 @@ pub mod Names
 pub mod Binders
 pub mod Clash
 pub mod Helpers
+pub mod Held

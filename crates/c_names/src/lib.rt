@@ -6,6 +6,7 @@ mod binders;
 mod clash;
 mod helpers;
 mod names;
+mod set;
 mod words;
 
 pub use binders::NameTable;

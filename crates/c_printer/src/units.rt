@@ -116,7 +116,7 @@ pub fn lower(alloc: Global, unit: &Unit, what: &[Printed]) -> Result<CUnit, Lowe
     }
     let fields = used_names(alloc, unit, what, &counted)?;
     let globals = global_names(alloc, unit, what, &fields)?;
-    if let Some(name) = first_clash(&globals) {
+    if let Some(name) = first_clash(alloc, &globals)? {
         let name = name.duplicate(alloc)?;
         return Err(LowerError::NameClash(name));
     }
