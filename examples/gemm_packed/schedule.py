@@ -7,10 +7,10 @@ p = reorder_loops(p, 'ji ko')
 p = reorder_loops(p, 'ii ko')
 # Neighbouring columns are innermost.
 p = reorder_loops(p, 'ji ki')
-# A tile of C is summed up by itself; tiles of A and B are copied before they are used.
-p = stage_mem(p, 'ko', 'C[32 * io:32 * io + 32, 32 * jo:32 * jo + 32]', 'c', accum=True)
+# Tiles of A and B are copied before they are used; a tile of C is summed up by itself.
 p = stage_mem(p, 'ii', 'A[32 * io:32 * io + 32, 32 * ko:32 * ko + 32]', 'a')
 p = stage_mem(p, 'ii', 'B[32 * ko:32 * ko + 32, 32 * jo:32 * jo + 32]', 'b')
+p = stage_mem(p, 'ko', 'C[32 * io:32 * io + 32, 32 * jo:32 * jo + 32]', 'c', accum=True)
 p = set_memory(p, 'c : _', STACK)
 p = set_memory(p, 'a : _', STACK)
 p = set_memory(p, 'b : _', STACK)
