@@ -78,15 +78,15 @@ module _ (scene : Scene) where
 
   -- ---- literals
 
+  abbrev HasSome : (ℕ → ℕ) → List Control → Control → Type 0
+  HasSome most ds c = all_positive (numbers scene (c ∷ ds)) ≡ true → 1 ≤ cells_magnitude most (c ∷ ds)
+
   -- there are some cells
   some_cells : (most : ℕ → ℕ) (ds : List Control) → AreLiterals ds → all_positive (numbers scene ds) ≡ true → 1 ≤ cells_magnitude most ds
   some_cells most [] h p = omega arith
-  some_cells most (d ∷ ds) h p = subst HasSome (sym h.0.1) (of_literal h.0.0) p
+  some_cells most (d ∷ ds) h p = subst (HasSome most ds) (sym h.0.1) (of_literal h.0.0) p
     where
-      abbrev HasSome : Control → Type 0
-      HasSome c = all_positive (numbers scene (c ∷ ds)) ≡ true → 1 ≤ cells_magnitude most (c ∷ ds)
-
-      of_literal : (z : ℤ) → HasSome (Lit z)
+      of_literal : (z : ℤ) → HasSome most ds (Lit z)
       of_literal (negsuc k) q = absurd (true≢false (sym (and_parts (int_le (pos 1) (negsuc k)) (all_positive (numbers scene ds)) q).0))
       of_literal (pos k) q =
           let parts = and_parts (int_le (pos 1) (pos k)) (all_positive (numbers scene ds)) q in

@@ -41,23 +41,17 @@ not_kept n (suc p) h =
 -- the next dimension, by a product that stops at the greatest number of 64 bits
 pub fit_more : (most : ℕ → ℕ) (n r : ℕ) (d : Control) (ds : List Control) → r ≡ min (n * magnitude most d) 18446744073709551615 → is_narrow most d ≡ true → fit_times most r ds ≡ fit_times most n (d ∷ ds)
 fit_more most n r d ds e h =
-    ap (λ t. are_narrow most ds && t) (⊎_elim below above (cases_lt (n * m) 18446744073709551615))
-    ∙ sym (ap (λ t. t && are_narrow most ds && fits (n * (m * p))) h)
+    ap (λ t. are_narrow most ds && t) (⊎_elim below above (cases_lt (n * magnitude most d) 18446744073709551615))
+    ∙ sym (ap (λ t. t && are_narrow most ds && fits (n * (magnitude most d * cells_magnitude most ds))) h)
   where
-    abbrev m : ℕ
-    m = magnitude most d
-
-    abbrev p : ℕ
-    p = cells_magnitude most ds
-
-    behind : n * m * p ≡ n * (m * p)
+    behind : n * magnitude most d * cells_magnitude most ds ≡ n * (magnitude most d * cells_magnitude most ds)
     behind = omega arith
 
-    below : n * m < 18446744073709551615 → fits (r * p) ≡ fits (n * (m * p))
-    below k = let same : r ≡ n * m = omega (arith, e, k) in ap (λ q. fits (q * p)) same ∙ ap fits behind
+    below : n * magnitude most d < 18446744073709551615 → fits (r * cells_magnitude most ds) ≡ fits (n * (magnitude most d * cells_magnitude most ds))
+    below k = let same : r ≡ n * magnitude most d = omega (arith, e, k) in ap (λ q. fits (q * cells_magnitude most ds)) same ∙ ap fits behind
 
-    above : 18446744073709551615 ≤ n * m → fits (r * p) ≡ fits (n * (m * p))
-    above k = let most_of_all : r ≡ 18446744073709551615 = omega (arith, e, k) in ap (λ q. fits (q * p)) most_of_all ∙ not_kept (n * m) p k ∙ ap fits behind
+    above : 18446744073709551615 ≤ n * magnitude most d → fits (r * cells_magnitude most ds) ≡ fits (n * (magnitude most d * cells_magnitude most ds))
+    above k = let most_of_all : r ≡ 18446744073709551615 = omega (arith, e, k) in ap (λ q. fits (q * cells_magnitude most ds)) most_of_all ∙ not_kept (n * magnitude most d) (cells_magnitude most ds) k ∙ ap fits behind
 
 -- the dimensions of vectors are all but the last
 pub own_part : {A : Type 0} (plain : A → Control) (lanes : ℕ) (all : List A) (ds : List Control) → (lanes ≡ 0 → ⊥) → map plain all ≡ ds → map plain (take (length all - 1) all) ≡ own_dims lanes ds
