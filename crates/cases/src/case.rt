@@ -13,6 +13,8 @@ pub struct Wanted {
     pub only_end: bool,
     /// The message.
     pub err: Vec<u8>,
+    /// How many chunks of systems are decided, where that is told.
+    pub enters: Option<u64>,
 }
 
 /// A part of a case: its heading and its text.
@@ -38,6 +40,11 @@ pub struct Case {
     pub reads: Vec<u64>,
     /// The numbers of the puts to the standard output that fail, from 0.
     pub puts: Vec<u64>,
+    /// Of the first chunks of lists of systems, the number of the one that waits for the second
+    /// chunk, from 0.
+    pub waits: u64,
+    /// How many chunks are decided, where that is told.
+    pub enters: Option<u64>,
     /// The files, what is wanted, and the changes.
     pub parts: Vec<Part>,
     /// Whether each line is one that a case may have.
@@ -48,6 +55,9 @@ pub struct Case {
 
 /// How many bytes a sink takes where a case does not say.
 pub const ROOM: usize = 65536;
+
+/// The number of a first chunk that no run comes to.
+const NONE_WAITS: u64 = u64::MAX;
 
 impl Case {
     /// A case that has not begun.
@@ -60,6 +70,8 @@ impl Case {
             room: ROOM,
             reads: Vec::new(alloc),
             puts: Vec::new(alloc),
+            waits: NONE_WAITS,
+            enters: None,
             parts: Vec::new(alloc),
             is_clear: true,
             has_begun: false,
@@ -75,6 +87,8 @@ impl Case {
         self.room = ROOM;
         self.reads.clear();
         self.puts.clear();
+        self.waits = NONE_WAITS;
+        self.enters = None;
         self.parts.clear();
         self.is_clear = true;
         self.has_begun = true;
@@ -132,6 +146,8 @@ impl Case {
             "room" => self.room = number as usize,
             "fail read" => self.reads.push(number as u64)?,
             "fail put" => self.puts.push(number as u64)?,
+            "waits" => self.waits = number as u64,
+            "enters" => self.enters = Some(number as u64),
             _ => self.is_clear = false,
         }
         Ok(())
@@ -158,6 +174,7 @@ impl Case {
             out,
             only_end: end.is_some(),
             err: err.to_vec(self.alloc)?,
+            enters: self.enters,
         })
     }
 }

@@ -65,6 +65,7 @@ impl<'a> Sweep<'a> {
             out: Vec::new(alloc),
             only_end: false,
             err: message.into_bytes(),
+            enters: None,
         })
     }
 

@@ -5,6 +5,8 @@
 //! - `status 1`: the exit status that is wanted, if it is not 0;
 //! - `fail read 1`, `fail put 0`: the second reading of a file fails, the first put to the standard output does; `room 5`: the standard
 //!   output takes five bytes;
+//! - `waits 0`: the first chunk of the first list of systems that has chunks waits until a second
+//!   one has begun; `enters 3`: so many chunks are decided in the run;
 //! - `--- u.py`: the lines from here to the next heading are a file of that name;
 //! - `--- out`, `--- out ends`, `--- err`: so are the output, its end, and the message that are wanted, nothing where there is no heading;
 //! - `--- changes 4`: each line is a row of changes of the first file, from its line 4 on (module changes).

@@ -1,20 +1,23 @@
 // Runs of the program on a case.
 use crate::case::{Case, ROOM, Wanted};
+use case_gates::Watching;
 use exo_cli::{MemFiles, MemSink, exoc};
-use ob_check::Free;
 use std::alloc::{AllocError, Global};
 use std::thread::Threads;
 
-/// What a run left: its status, and what the two sinks took.
+/// What a run left: its status, what the two sinks took, how many chunks of systems were decided,
+/// and whether one waited in vain.
 #[derive(Drop)]
 struct Outcome {
     status: u16,
     out: MemSink,
     err: MemSink,
+    entered: u64,
+    gave_up: bool,
 }
 
 impl Outcome {
-    /// What is otherwise than it is wanted, the first of message, status and output.
+    /// What is otherwise than it is wanted, the first of message, status, output and chunks.
     fn difference(&self, wanted: &Wanted) -> Option<&'static str> {
         let out = self.out.bytes();
         let is_same = if wanted.only_end {
@@ -31,14 +34,26 @@ impl Outcome {
         if !is_same {
             return Some("output");
         }
-        None
+        self.chunk_difference(wanted)
+    }
+
+    /// What is otherwise of the chunks.
+    fn chunk_difference(&self, wanted: &Wanted) -> Option<&'static str> {
+        if self.gave_up {
+            return Some("gave up");
+        }
+        match wanted.enters {
+            Some(count) if count != self.entered => Some("enters"),
+            _ => None,
+        }
     }
 
     /// Adds to the report what is otherwise than it is wanted, and what came in its place.
     fn report(&self, alloc: Global, what: &str, report: &mut String) -> Result<(), AllocError> {
         let status = self.status;
+        let entered = self.entered;
         let message = str::from_utf8(self.err.bytes()).unwrap_or("no text");
-        report.push_str(&format!(in alloc; " {what}; status {status} {message}")?)
+        report.push_str(&format!(in alloc; " {what}; status {status}, {entered} chunks {message}")?)
     }
 }
 
@@ -88,6 +103,7 @@ fn run<R: Threads + Sync + AllocGlobal>(
     let mut files = files_of(alloc, case, first)?;
     let mut out = MemSink::new(alloc, case.puts.to_vec(alloc)?, case.room)?;
     let mut err = MemSink::new(alloc, Vec::new(alloc), ROOM)?;
+    let gate = Watching::new(case.waits);
     let status = exoc(
         rt,
         alloc,
@@ -95,12 +111,14 @@ fn run<R: Threads + Sync + AllocGlobal>(
         &mut files,
         &mut out,
         &mut err,
-        &Free,
+        &gate,
     );
     Ok(Outcome {
         status: u16::from(status.number()),
         out,
         err,
+        entered: gate.entered(),
+        gave_up: gate.gave_up(),
     })
 }
 

@@ -4,6 +4,7 @@ use Rattle.std.proofs.Common.{eqb-true, List, [], ◌∷◌, map, length, Option
 use Rattle.std.proofs.Common.{subst, arith, ⊎_elim}
 use Rattle.std.specs.Prelude.{slice_get, Result}
 use Rattle.std.proofs.lemmas.Bool.{and_parts}
+use Rattle.generated_texts.specs.Texts.{unit_text, schedule_text}
 use Rattle.text_phrases.specs.Limits.{in_size}
 use Rattle.text_phrases.specs.Text.{IsText}
 use Rattle.exo_tree.specs.Tree.{Procedure, Program}
@@ -41,14 +42,16 @@ use Rattle.compile_stages.specs.Stages.{Stage, Passed, Stopped, Typed, IsTyped, 
 use Rattle.schedule_laws.specs.Names.Schedules.{LinesGiveNames, SchedulesKeepNames}
 use Rattle.compile_stages.specs.Stages.{IsScheduled, ended, IsRan, Made, made, kept, if_kept, narrow, if_narrow}
 use Rattle.compile_stages.specs.Stages.{named, if_named, text, lowered_text, printed, displayed, Leads}
-use Rattle.compile_stages.specs.Stages.{Schedules, Compiles, Displays, Checks, counted}
+use Rattle.compile_stages.specs.Stages.{Schedules, Compiles, Displays, Generates, summary, Checks, counted}
 use Rattle.compile_stages.specs.Stops as stop
 use Rattle.compile_stages.specs.Messages as messages
 use Rattle.compile_stages.specs.Undeclared.{UndeclaredFieldsStay}
 use Rattle.compile_stages.specs.Promise.{AreMade, ComesFrom, IsPrinted, Promise}
 use Rattle.compile_stages.specs.Shown.{Displayed}
 use Rattle.compile_stages.specs.Counted.{IsCounted}
-use Rattle.compile_stages.specs.Laws.{CompiledIsPromised, DisplayedIsPromised, CheckedIsCounted}
+use Rattle.compile_stages.specs.Generated.{Generated}
+use Rattle.compile_stages.specs.Laws.{CompiledIsPromised, DisplayedIsPromised, GeneratedIsPromised}
+use Rattle.compile_stages.specs.Laws.{CheckedIsCounted}
 use Rattle.compile_stages.proofs.Running.{led, passed_then, passed_is, stopped_is_not_passed}
 use Rattle.compile_stages.proofs.Typing.{Formed, typed_is_formed, all_shown}
 use Rattle.compile_stages.proofs.Listing.{nothing_there, some_is, few_printings}
@@ -187,15 +190,14 @@ known laws source schedule v h =
 
 -- ---- compiled
 
-pub compiled_is_promised : LawsBelow → FileLaws → PrintingsAreListings → UndeclaredFieldsStay
-    → CompiledIsPromised
-compiled_is_promised laws files listings undeclared source schedule out h =
-    let a = led (Schedules source schedule) _ out h in
-    let v = a.0 in
-    let k = known laws source schedule v a.1 in
+-- the C that is printed of the versions that a schedule makes keeps the promise of these versions
+promised : LawsBelow → FileLaws → PrintingsAreListings → UndeclaredFieldsStay
+    → (source schedule out : List ℕ) (v : Versions) → Schedules source schedule (Passed v)
+    → printed (made v) ≡ Passed out → (p : Promise source schedule out) × (p.versions ≡ v)
+promised laws files listings undeclared source schedule out v runs prints =
+    let k = known laws source schedule v runs in
     let text = unit_of k.formed.items in
-    let m = made v in
-    let is = printable m out (sym a.2) in
+    let is = printable (made v) out prints in
     let few = few_printings v in
     let all = few_procedures v.unit k.kept.derived.formed in
     let lowers : AreLowered fault_of v.unit (printings_of v) = record {
@@ -204,19 +206,44 @@ compiled_is_promised laws files listings undeclared source schedule out h =
       narrow = is.narrow;
       named = is.named;
       few = omega (arith, few, all);
-    } in
+    } in (
+      record {
+        items = k.formed.items;
+        versions = v;
+        what = printings_of v;
+        made = k.made;
+        printings = refl;
+        listing = lowers.listing;
+        memories = is.memories;
+        narrow = is.narrow;
+        named = is.named;
+        text = is.text;
+        each = each_printed text v k.formed.formed k.made.no_fault k.kept files undeclared lowers;
+      },
+      refl,
+    )
+
+pub compiled_is_promised : LawsBelow → FileLaws → PrintingsAreListings → UndeclaredFieldsStay
+    → CompiledIsPromised
+compiled_is_promised laws files listings undeclared source schedule out h =
+    let a = led (Schedules source schedule) _ out h in
+    (promised laws files listings undeclared source schedule out a.0 a.1 (sym a.2)).0
+
+-- ---- generated
+
+pub generated_is_promised : LawsBelow → FileLaws → PrintingsAreListings → UndeclaredFieldsStay
+    → GeneratedIsPromised
+generated_is_promised laws files listings undeclared n report h =
+    let source = unit_text n in
+    let schedule = schedule_text n in
+    let a = led (Schedules source schedule) _ report h in
+    let v = a.0 in
+    let b = passed_then (printed (made v)) (λ text. Passed (summary n v text)) report (sym a.2) in
+    let p = promised laws files listings undeclared source schedule b.0 v a.1 b.1 in
     record {
-      items = k.formed.items;
-      versions = v;
-      what = printings_of v;
-      made = k.made;
-      printings = refl;
-      listing = lowers.listing;
-      memories = is.memories;
-      narrow = is.narrow;
-      named = is.named;
-      text = is.text;
-      each = each_printed text v k.formed.formed k.made.no_fault k.kept files undeclared lowers;
+      printed = b.0;
+      kept = p.0;
+      is_report = sym (passed_is b.2) ∙ ap (λ (w : Versions). summary n w b.0) (sym p.1);
     }
 
 -- ---- displayed

@@ -1,5 +1,6 @@
 -- Each way comes to one end.
 use Rattle.std.proofs.Common.{◌≡◌, ℕ, List, Option, Some, None, refl, sym, ap, ◌∙◌, subst, ⊎_elim}
+use Rattle.generated_texts.specs.Texts.{unit_text, schedule_text}
 use Rattle.text_phrases.specs.Limits.{in_size}
 use Rattle.text_phrases.specs.Text.{IsText}
 use Rattle.text_lexer.specs.declared.place.Place.{Place}
@@ -19,7 +20,7 @@ use Rattle.schedule_run.specs.Laws.{LinesRunOnce}
 use Rattle.compile_stages.specs.Stops as stop
 use Rattle.compile_stages.specs.Stages.{Stage, Passed, Stopped, Typed, IsUnread, IsRuled, IsRead, IsTyped}
 use Rattle.compile_stages.specs.Stages.{shown, Schedule, IsNoSchedule, IsSchedule, IsScheduled, ended}
-use Rattle.compile_stages.specs.Stages.{IsRan, made, printed, displayed, Schedules, counted, EndsAreOne}
+use Rattle.compile_stages.specs.Stages.{IsRan, made, printed, displayed, summed, Schedules, counted, EndsAreOne}
 use Rattle.compile_stages.proofs.Running.{leads_once}
 
 same_error : (a b : TypeError) → a.line ≡ b.line → a.column ≡ b.column → a.kind ≡ b.kind → a ≡ b
@@ -116,5 +117,7 @@ module _ (units : TextsAreOne unit) (schedules : TextsAreOne grammar.schedule) (
         leads_once _ _ (made_once source schedule) (λ v. same_end (printed (made v)));
     displays = λ source schedule name.
         leads_once _ _ (made_once source schedule) (λ v. same_end (displayed name v));
+    generates = λ n.
+        leads_once _ _ (made_once (unit_text n) (schedule_text n)) (λ v. same_end (summed n v));
     checks = λ source. leads_once _ _ (typed_once source) (λ u. same_end (counted u));
   }

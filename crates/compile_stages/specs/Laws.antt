@@ -1,8 +1,9 @@
 -- What holds where the stages pass.
 use Rattle.std.specs.Prelude.{ℕ, List}
-use Rattle.compile_stages.specs.Stages.{Passed, Compiles, Displays, Checks}
+use Rattle.compile_stages.specs.Stages.{Passed, Compiles, Displays, Generates, Checks}
 use Rattle.compile_stages.specs.Promise.{Promise}
 use Rattle.compile_stages.specs.Shown.{Displayed}
+use Rattle.compile_stages.specs.Generated.{Generated}
 use Rattle.compile_stages.specs.Counted.{IsCounted}
 
 -- the C that is made keeps the promise
@@ -18,6 +19,11 @@ DisplayedIsPromised =
     (source schedule name text : List ℕ)
     → Displays source schedule name (Passed text)
     → Displayed source schedule name text
+
+-- the summary of the texts of a number is one of C that keeps the promise
+abbrev pub GeneratedIsPromised : Type 0
+GeneratedIsPromised =
+    (n : ℕ) (report : List ℕ) → Generates n (Passed report) → Generated n report
 
 -- what is counted is shown, and nothing of the unit faults
 abbrev pub CheckedIsCounted : Type 0

@@ -8,4 +8,5 @@ pub mod Undeclared
 pub mod Promise
 pub mod Shown
 pub mod Counted
+pub mod Generated
 pub mod Laws

@@ -37,3 +37,13 @@ unit_refused file row why = line (file ∷ codes ":" ∷ decimal row ∷ codes "
 -- so many obligations, and all are shown
 abbrev pub checked : ℕ → List ℕ
 checked count = decimal count ++ codes " obligations\nok\n"
+
+-- so many procedures and steps, so much that was shown, and so many lines of C
+abbrev pub summary : ℕ → ℕ → ℕ → ℕ → List ℕ
+summary procedures steps obligations lines =
+    ended
+    (codes "procedures " ∷ decimal procedures
+    ∷ codes "\nsteps " ∷ decimal steps
+    ∷ codes "\nobligations " ∷ decimal obligations
+    ∷ codes "\nlines " ∷ decimal lines
+    ∷ [])

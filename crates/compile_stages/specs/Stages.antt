@@ -1,9 +1,11 @@
 -- The way of a compilation, stage by stage: the text of the unit is read and its rules are tested,
 -- what its procedures owe is shown, the text of the schedule is read, its lines run, and what they
 -- emit is printed with all that it calls. To show a version is the same way but for the last stage,
--- and a check is the first stages alone.
+-- and a check is the first stages alone. The texts of a number go the whole way.
 use Rattle.std.specs.Prelude.{◌≡◌, ℕ, ◌⊎◌, List, [], Option, Some, None, slice_get, slice_index}
-use Rattle.std.specs.Prelude.{codes}
+use Rattle.std.specs.Prelude.{◌==◌, codes}
+use Rattle.std.specs.List.{count_by}
+use Rattle.generated_texts.specs.Texts as generated
 use Rattle.text_phrases.specs.Text.{IsText}
 use Rattle.text_lexer.specs.declared.place.Place.{Place}
 use Rattle.exo_tree.specs.Tree.{Program}
@@ -242,6 +244,24 @@ abbrev pub Displays : List ℕ → List ℕ → List ℕ → Stage (List ℕ) �
 Displays source schedule name =
     Leads (Schedules source schedule) (λ v end. end ≡ displayed name v)
 
+-- how many lines a text has, each of which ends with a line feed
+abbrev pub line_count : List ℕ → ℕ
+line_count text = count_by (λ b. b == 10) text
+
+-- what the versions that the texts of a number make come to
+abbrev pub summary : ℕ → Versions → List ℕ → List ℕ
+summary n v text =
+    messages.summary (generated.procedures n) v.steps v.obligations (line_count text)
+
+abbrev pub summed : ℕ → Versions → Stage (List ℕ)
+summed n v = then_do (printed (made v)) (λ text. Passed (summary n v text))
+
+-- the summary of the texts of a number
+abbrev pub Generates : ℕ → Stage (List ℕ) → Type 0
+Generates n =
+    Leads (Schedules (generated.unit_text n) (generated.schedule_text n)) (λ v end.
+    end ≡ summed n v)
+
 abbrev pub counted : Typed → Stage (List ℕ)
 counted u =
     then_do (shown u) (λ count.
@@ -263,5 +283,7 @@ pub record EndsAreOne : Type 0 where
       → Displays source schedule name a
       → Displays source schedule name b
       → a ≡ b
+  pub generates :
+      (n : ℕ) (a b : Stage (List ℕ)) → Generates n a → Generates n b → a ≡ b
   pub checks :
       (source : List ℕ) (a b : Stage (List ℕ)) → Checks source a → Checks source b → a ≡ b

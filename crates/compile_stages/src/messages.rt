@@ -1,6 +1,7 @@
 // Messages on texts, each a line.
 ghost use Rattle.std.specs.Prelude.{◌≡◌, string_bytes, IfOk};
-ghost use Rattle.compile_stages.specs.Messages.{refused, place_refused, name_refused, line_refused, unit_refused, checked};
+ghost use Rattle.compile_stages.specs.Messages.{checked, line_refused, name_refused, place_refused};
+ghost use Rattle.compile_stages.specs.Messages.{refused, summary, unit_refused};
 
 use std::alloc::{AllocError, Global};
 
@@ -66,4 +67,20 @@ pub(crate) fn checked(alloc: Global, count: u64) -> Result<String, AllocError>
     ensures { IfOk result (λ text. string_bytes text ≡ checked count) }
 {
     format!(in alloc; "{count} obligations\nok\n")
+}
+
+/// How much the texts of a number come to: procedures, steps of the schedule, what was shown, and
+/// lines of the C.
+pub(crate) fn summary(
+    alloc: Global,
+    procedures: u32,
+    steps: u64,
+    obligations: u64,
+    lines: usize,
+) -> Result<String, AllocError>
+    ensures { IfOk result (λ text. string_bytes text ≡ summary procedures steps obligations lines) }
+{
+    format!(in alloc;
+        "procedures {procedures}\nsteps {steps}\nobligations {obligations}\nlines {lines}\n"
+    )
 }

@@ -86,7 +86,7 @@ pub fn checked<R: Threads + Sync, G: Gate>(
 }
 
 /// The versions that the lines of the schedule make of the unit.
-fn scheduled<R: Threads + Sync, G: Gate>(
+pub(crate) fn scheduled<R: Threads + Sync, G: Gate>(
     rt: &R,
     alloc: Global,
     unit: &[u8],

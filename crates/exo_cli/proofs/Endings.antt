@@ -7,8 +7,8 @@ use Rattle.exo_cli.specs.declared.status.Status.{Status}
 use Rattle.exo_cli.specs.declared.status.Status.TheVariants.{Ok, Usage, ReadFault, WriteFault, Memory}
 use Rattle.cli_outside.specs.Outside.{Folder, content_of, HasBytes, Rose, with_more, StopsWithin}
 use Rattle.exo_cli.specs.Messages.{usage, file_refused}
-use Rattle.compile_stages.specs.Stages.{Stage, Passed, Stopped, Checks}
-use Rattle.exo_cli.specs.Words.{Command, Check, command_of, files_of}
+use Rattle.compile_stages.specs.Stages.{Stage, Passed, Stopped, Generates, Checks}
+use Rattle.exo_cli.specs.Words.{Command, Check, Gen, command_of, files_of}
 use Rattle.exo_cli.specs.Answer.{Answer, Accepted, Rejected, Unread, Misused, answer_of, IsAnswerOf}
 use Rattle.exo_cli.specs.Answer.{status_of, for_out, for_err, IsVerdict}
 use Rattle.exo_cli.specs.Work.{Stays, file_limit, Opens, OpensBoth, AnswersTo, Answers, operands, IsReadFault}
@@ -112,6 +112,19 @@ checked-answers told procs text before after last reply held short checked =
     go (Some files) held =
         opened-within (content_of files procs) procs text (λ u. IsAnswerOf procs [] (Checks u)) reply held short
         checked
+
+-- a command that opens no file
+pub generated-answers : (n : ℕ) (reply : Answer)
+    → (s : Stage (List ℕ)) × Generates n s × (reply ≡ answer_of (codes "gen-procs") (codes "gen-schedule") s)
+    → (told : Option Folder) (before after : ℕ) (last : Option (List ℕ))
+    → IsAnswerTo (Gen n) told before after last reply
+generated-answers n reply end told before after last =
+    told-verdict (Gen n) told before after last reply
+    (is_verdict (codes "gen-procs") (codes "gen-schedule") end.0 reply end.2) (go told)
+  where
+    go : (told : Option Folder) → IfSome told (λ files. AnswersTo (Gen n) files reply)
+    go None = tt
+    go (Some files) = end
 
 -- a reply answers what a command came to
 pub answered : (end : Option (Stage (List ℕ))) (P : Stage (List ℕ) → Type 0)

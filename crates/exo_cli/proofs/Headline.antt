@@ -2,12 +2,12 @@
 use Rattle.std.proofs.Common.{◌≡◌, ◌≢◌, inl, inr, ℕ, List, [], Bool, true, false, Option, Some, None}
 use Rattle.std.proofs.Common.{length, nat_lt, codes, refl, sym, subst, MatchBool, MatchOption, IfSome}
 use Rattle.cli_outside.specs.Outside.{Folder, content_of, with_more}
-use Rattle.compile_stages.specs.Stages.{Stage, Passed, Stopped, Compiles, Displays, Checks}
-use Rattle.compile_stages.specs.Laws.{CompiledIsPromised, DisplayedIsPromised, CheckedIsCounted}
+use Rattle.compile_stages.specs.Stages.{Stage, Passed, Stopped, Compiles, Displays, Generates, Checks}
+use Rattle.compile_stages.specs.Laws.{CompiledIsPromised, DisplayedIsPromised, GeneratedIsPromised, CheckedIsCounted}
 use Rattle.exo_cli.specs.declared.status.Status.{Status}
 use Rattle.exo_cli.specs.declared.status.Status.TheVariants.{Ok, Refused, Usage, ReadFault, WriteFault, Memory}
 use Rattle.exo_cli.specs.Messages.{usage, file_refused}
-use Rattle.exo_cli.specs.Words.{Command, Compile, Check, Show, command_of}
+use Rattle.exo_cli.specs.Words.{Command, Compile, Check, Show, Gen, command_of}
 use Rattle.exo_cli.specs.Answer.{Answer, Accepted, Rejected, Unread, Misused, answer_of, IsAnswerOf}
 use Rattle.exo_cli.specs.Answer.{status_of, for_out, for_err}
 use Rattle.exo_cli.specs.Work.{file_limit, Opens, AnswersTo, Answers, Moment, Ends}
@@ -17,6 +17,7 @@ use Rattle.exo_cli.specs.Headline.{KeepsItsPromise}
 pub record StageLaws : Type 0 where
   pub compiled : CompiledIsPromised
   pub displayed : DisplayedIsPromised
+  pub generated : GeneratedIsPromised
   pub checked : CheckedIsCounted
 
 accepted_is_not_rejected : {t m : List ℕ} → Accepted t ≡ Rejected m → ⊥
@@ -99,7 +100,7 @@ module _ (laws : StageLaws) (words : List (List ℕ)) (files : Folder) (before a
       }))
   by_command (Check procs) asked h =
       let first = opened (content_of files procs) procs text _ h in
-      inr (inr (record {
+      inr (inr (inl (record {
         procs = procs;
         unit = first.bytes;
         report = text;
@@ -107,7 +108,15 @@ module _ (laws : StageLaws) (words : List (List ℕ)) (files : Folder) (before a
         unit_file = first.there;
         written = written;
         kept = laws.checked first.bytes text (passed procs [] text (Checks first.bytes) first.comes);
-      }))
+      })))
+  by_command (Gen n) asked h =
+      inr (inr (inr (record {
+        number = n;
+        report = text;
+        asked = asked;
+        written = written;
+        kept = laws.generated n text (passed (codes "gen-procs") (codes "gen-schedule") text (Generates n) h);
+      })))
 
   by_words : (asked : Option Command) → command_of words ≡ asked
       → MatchOption asked (Accepted text ≡ Misused usage) (λ command. AnswersTo command files (Accepted text))

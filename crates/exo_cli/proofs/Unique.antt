@@ -2,9 +2,9 @@
 use Rattle.std.proofs.Common.{◌≡◌, ℕ, List, [], Bool, true, false, Option, Some, None, length, nat_lt}
 use Rattle.std.proofs.Common.{codes, sym, ap, ◌∙◌, MatchBool, MatchOption}
 use Rattle.cli_outside.specs.Outside.{Folder, content_of}
-use Rattle.compile_stages.specs.Stages.{Stage, Compiles, Displays, Checks, EndsAreOne}
+use Rattle.compile_stages.specs.Stages.{Stage, Compiles, Displays, Generates, Checks, EndsAreOne}
 use Rattle.exo_cli.specs.Messages.{usage, file_refused}
-use Rattle.exo_cli.specs.Words.{Command, Compile, Check, Show, command_of}
+use Rattle.exo_cli.specs.Words.{Command, Compile, Check, Show, Gen, command_of}
 use Rattle.exo_cli.specs.Answer.{Answer, Rejected, Misused, answer_of, IsAnswerOf}
 use Rattle.exo_cli.specs.Work.{file_limit, Opens, AnswersTo, AnswersAreUnique}
 
@@ -42,6 +42,8 @@ module _ (ends : EndsAreOne) where
       opens_once (content_of files procs) procs _ a b (λ unit.
       opens_once (content_of files schedule) schedule _ a b (λ lines.
       answer_once procs schedule (Displays unit lines name) (ends.displays unit lines name) a b))
+  answers_to_once (Gen n) files a b =
+      answer_once (codes "gen-procs") (codes "gen-schedule") (Generates n) (ends.generates n) a b
 
   pub answers_are_unique : AnswersAreUnique
   answers_are_unique words files a b = go (command_of words)

@@ -3,7 +3,8 @@ use Rattle.std.specs.Prelude.{◌≡◌, ◌⊎◌, ℕ, List, Option, Some}
 use Rattle.cli_outside.specs.Outside.{Folder, content_of, with_more}
 use Rattle.compile_stages.specs.Promise.{Promise}
 use Rattle.compile_stages.specs.Shown.{Displayed}
-use Rattle.exo_cli.specs.Words.{Compile, Show, command_of}
+use Rattle.compile_stages.specs.Generated.{Generated}
+use Rattle.exo_cli.specs.Words.{Compile, Show, Gen, command_of}
 use Rattle.exo_cli.specs.Counted.{Counted}
 
 -- The words ask to compile two files, which are told; what was written to the output is C, and it
@@ -37,10 +38,20 @@ pub record Shown (words : List (List ℕ)) (files : Folder)
   pub written : after ≡ with_more before text
   pub kept : Displayed unit lines name text
 
+-- The words ask for the texts of a number; what was written to the output is the summary of C that
+-- keeps the promise.
+pub record Summed (words : List (List ℕ)) (before after : Option (List ℕ)) : Type 0 where
+  pub number : ℕ
+  pub report : List ℕ
+  pub asked : command_of words ≡ Some (Gen number)
+  pub written : after ≡ with_more before report
+  pub kept : Generated number report
+
 -- by the command that the words are
 abbrev pub KeepsItsPromise :
     List (List ℕ) → Folder → Option (List ℕ) → Option (List ℕ) → Type 0
 KeepsItsPromise words files before after =
     Promised words files before after
     ⊎ (Shown words files before after
-    ⊎ Counted words files before after)
+    ⊎ (Counted words files before after
+    ⊎ Summed words before after))

@@ -5,10 +5,10 @@ use Rattle.std.specs.Option.{option_map_or}
 use Rattle.exo_cli.specs.declared.status.Status.{Status}
 use Rattle.exo_cli.specs.declared.status.Status.TheVariants.{Ok, Usage, ReadFault, WriteFault}
 use Rattle.exo_cli.specs.declared.status.Status.TheVariants.{Memory}
-use Rattle.compile_stages.specs.Stages.{Compiles, Displays, Checks}
+use Rattle.compile_stages.specs.Stages.{Compiles, Displays, Generates, Checks}
 use Rattle.cli_outside.specs.Outside.{Folder, content_of, IsLonger, Rose, with_more, StopsWithin}
 use Rattle.exo_cli.specs.Messages.{usage, cannot_read, file_refused}
-use Rattle.exo_cli.specs.Words.{Command, Compile, Check, Show, command_of, files_of}
+use Rattle.exo_cli.specs.Words.{Command, Compile, Check, Show, Gen, command_of, files_of}
 use Rattle.exo_cli.specs.Answer.{Answer, Accepted, Rejected, Unread, Misused, IsAnswerOf}
 use Rattle.exo_cli.specs.Answer.{status_of, for_out, for_err}
 
@@ -40,6 +40,7 @@ AnswersTo (Check procs) files =
 AnswersTo (Show procs schedule name) files =
     OpensBoth files procs schedule (λ unit lines.
     IsAnswerOf procs schedule (Displays unit lines name))
+AnswersTo (Gen n) files = IsAnswerOf (codes "gen-procs") (codes "gen-schedule") (Generates n)
 
 -- this is the answer to the words over these files
 abbrev pub Answers : List (List ℕ) → Folder → Answer → Type 0

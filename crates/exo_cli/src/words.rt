@@ -2,10 +2,13 @@
 ghost use Rattle.std.specs.Prelude.{◌≡◌, ◌&&◌, if◌then◌else◌, Some, None, option_map, codes};
 ghost use Rattle.std.specs.Str.{bytes_eq};
 ghost use Rattle.exo_cli.specs.Words as plainly;
-ghost use Rattle.exo_cli.specs.Words.{command_of, is_operand, texts};
+ghost use Rattle.exo_cli.specs.Words.{command_of, is_operand, short_of, texts};
 ghost use Rattle.exo_cli.specs.Asked.{plain};
 
-/// What the program is asked to do; its operands are names of files, and the last of `show` that of a version.
+use generated_texts::number_of;
+
+/// What the program is asked to do; its operands are names of files, the last of `show` that of a version, and that of
+/// `gen` a number.
 #[derive(Clone, Copy)]
 pub(crate) enum Command<'a> {
     /// Compile the procedures of the first file by the schedule of the second.
@@ -14,14 +17,19 @@ pub(crate) enum Command<'a> {
     Check(&'a str),
     /// Show the version that the name holds behind the schedule of the second file on the procedures of the first.
     Show(&'a str, &'a str, &'a str),
+    /// Compile the texts of the number, and say what they come to.
+    Gen(u32),
 }
 
 /// The command of three words.
-fn check_of<'a>(word: &str, procs: &'a str) -> Option<Command<'a>>
-    ensures { option_map plain result ≡ (if bytes_eq word.now (codes "check") && is_operand procs.now then Some (plainly.Check procs.now) else None) }
+fn short_of<'a>(word: &str, operand: &'a str) -> Option<Command<'a>>
+    ensures { option_map plain result ≡ short_of word.now operand.now }
 {
-    if word == "check" && is_operand(procs) {
-        return Some(Command::Check(procs));
+    if word == "check" && is_operand(operand) {
+        return Some(Command::Check(operand));
+    }
+    if word == "gen" {
+        return Some(Command::Gen(number_of(operand)?));
     }
     None
 }
@@ -50,15 +58,15 @@ fn show_of<'a>(word: &str, procs: &'a str, schedule: &'a str, name: &'a str) -> 
 pub(crate) fn read_command(words: &[String]) -> Option<Command<'_>>
     ensures { option_map plain result ≡ command_of (texts words.now) }
 {
-    let [_, word, procs, more @ ..] = words else {
+    let [_, word, first, more @ ..] = words else {
         return None;
     };
     match more {
-        [] => check_of(word.as_str(), procs.as_str()),
-        [schedule] => compile_of(word.as_str(), procs.as_str(), schedule.as_str()),
+        [] => short_of(word.as_str(), first.as_str()),
+        [schedule] => compile_of(word.as_str(), first.as_str(), schedule.as_str()),
         [schedule, name] => show_of(
             word.as_str(),
-            procs.as_str(),
+            first.as_str(),
             schedule.as_str(),
             name.as_str(),
         ),

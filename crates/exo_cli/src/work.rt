@@ -1,8 +1,8 @@
 // The order of the work: the words, the files, what their texts give, and then what is written.
-ghost use Rattle.std.specs.Prelude.{◌≡◌, ◌≤◌, IfOk, IfSome, MatchResult, length};
+ghost use Rattle.std.specs.Prelude.{◌≡◌, ◌≤◌, ℕ, IfOk, IfSome, List, MatchResult, Option, length};
 ghost use Rattle.exo_cli.specs.Headline.{KeepsItsPromise};
-ghost use Rattle.cli_outside.specs.Outside.{HasBytes};
-ghost use Rattle.exo_cli.specs.Words.{Compile, Check, Show, texts};
+ghost use Rattle.cli_outside.specs.Outside.{Folder, HasBytes};
+ghost use Rattle.exo_cli.specs.Words.{Compile, Check, Show, Gen, texts};
 ghost use Rattle.exo_cli.specs.Replies.{plain};
 ghost use Rattle.exo_cli.specs.Work.{Ends, EndsAt, IsAnswer, IsAnswerTo, file_limit};
 
@@ -11,8 +11,10 @@ use crate::reply::{Reply, replied};
 use crate::status::Status;
 use crate::words::{Command, read_command};
 use cli_outside::{FileFault, Files, Sink};
-use compile_stages::laws::{checked_is_counted, compiled_is_promised, displayed_is_promised};
-use compile_stages::{checked, compiled, displayed};
+use compile_stages::laws::{
+    checked_is_counted, compiled_is_promised, displayed_is_promised, generated_is_promised,
+};
+use compile_stages::{checked, compiled, displayed, generated};
 use ob_check::Gate;
 use std::alloc::{AllocError, Global};
 use std::thread::Threads;
@@ -56,6 +58,7 @@ pub fn exoc<R: Threads + Sync, F: Files, O: Sink, E: Sink, G: Gate>(
 {
     compiled_is_promised();
     displayed_is_promised();
+    generated_is_promised();
     checked_is_counted();
     match reply_to(rt, alloc, words, files, gate) {
         Ok(reply) => reply.deliver(out, err),
@@ -84,6 +87,7 @@ fn reply_to<R: Threads + Sync, F: Files, G: Gate>(
         Some(Command::Show(procs, schedule, name)) => {
             show_version(rt, alloc, procs, schedule, name, files, gate)
         }
+        Some(Command::Gen(n)) => generate(rt, alloc, n, gate),
         None => Ok(Reply::Misused(messages::usage(alloc)?)),
     }
 }
@@ -146,6 +150,25 @@ fn show_version<R: Threads + Sync, F: Files, G: Gate>(
         procs,
         schedule,
         displayed(rt, alloc, &unit, &lines, name, gate),
+    )
+}
+
+/// What is replied to the command to compile the texts of this number, whatever the files hold.
+fn generate<R: Threads + Sync, G: Gate>(
+    rt: &R,
+    alloc: Global,
+    n: u32,
+    gate: &G,
+) -> Result<Reply, AllocError>
+    ensures { IfOk result (λ reply.
+        (told : Option Folder) (before after : ℕ) (last : Option (List ℕ))
+        → IsAnswerTo (Gen n) told before after last (plain reply)) }
+{
+    replied(
+        alloc,
+        "gen-procs",
+        "gen-schedule",
+        generated(rt, alloc, n, gate),
     )
 }
 

@@ -15,3 +15,4 @@ pub mod Arms
 pub mod Going
 pub mod Lists
 pub mod FirstNamed
+pub mod Caching

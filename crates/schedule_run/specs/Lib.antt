@@ -7,4 +7,5 @@ pub mod PlainVersions
 pub mod PlainWhy
 pub mod Running
 pub mod Outcomes
+pub mod Cached
 pub mod Laws

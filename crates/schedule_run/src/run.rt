@@ -7,6 +7,9 @@ ghost use Rattle.schedule_calls.specs.PlainRequest.{plain_request};
 ghost use Rattle.schedule_laws.specs.Versions.Versions.{started};
 ghost use Rattle.schedule_laws.specs.Versions.Lines.{performed};
 ghost use Rattle.schedule_laws.specs.Operators.Operators.{act_of};
+ghost use Rattle.ob_check.specs.Held.{held};
+ghost use Rattle.unit_check.specs.Cached.{discharged_all};
+ghost use Rattle.schedule_run.specs.Cached.{LineCached, LinesCached, lists_of};
 ghost use Rattle.schedule_run.specs.Outcomes.{Performs, RunsLine, RunsLines};
 ghost use Rattle.schedule_run.specs.PlainWhy.{why_of_line};
 ghost use Rattle.schedule_run.specs.Planned.{have_forms};
@@ -48,6 +51,9 @@ impl Running {
         ensures performs { Performs (performed (versions_in self.old) (act_of (plain_request request.entry)))
             (versions_in self.new) result }
         ensures running { OnOk result (IsRunning self.new) }
+        ensures cache { OnOk result (held cache.new
+            ≡ discharged_all (held cache.old)
+            (lists_of (versions_in self.old) (act_of (plain_request request.entry)))) }
     {
         match request {
             Request::Apply(bind, of, operation) => self.apply_owned(
@@ -75,6 +81,8 @@ impl Running {
         requires { IsRunning self.old }
         ensures runs { RunsLine (plain_line line.now) (versions_in self.old) (versions_in self.new) result }
         ensures running { OnOk result (IsRunning self.new) }
+        ensures cache { OnOk result (LineCached (plain_line line.now) (versions_in self.old)
+            (versions_in self.new) (held cache.old) (held cache.new)) }
     {
         let read = read_line(alloc, line)?;
         match read {
@@ -87,7 +95,8 @@ impl Running {
 /// Runs lines on the procedures of a unit, of which so many obligations were shown.
 ///
 /// The first line that is refused ends the work. What the cache held, and what threads do, changes
-/// no answer.
+/// no answer. After Ok the cache holds what discharging two lists for each step leaves in it: what
+/// the step owes, and what its result does.
 pub fn run_schedule<R: Threads + Sync, G: Gate>(
     rt: &R,
     alloc: Global,
@@ -100,6 +109,8 @@ pub fn run_schedule<R: Threads + Sync, G: Gate>(
     requires { IsUnit (program unit) }
     ensures exact { RunsLines (map plain_line lines.now) (started (program unit) shown) result }
     ensures within { IfErr result (λ e. (e.why ≡ Memory → ⊥) → e.index < length lines.now) }
+    ensures cache { OnOk result (LinesCached (map plain_line lines.now)
+        (started (program unit) shown) (held cache.old) (held cache.new)) }
 {
     let mut running = match Running::start(alloc, unit, shown) {
         Ok(running) => running,

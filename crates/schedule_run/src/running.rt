@@ -1,11 +1,14 @@
 //! Versions while lines run.
-ghost use Rattle.std.specs.Prelude.{◌≡◌, ◌+◌, ◌^◌, true, nat_le, map, length, Some};
+ghost use Rattle.std.specs.Prelude.{◌≡◌, ◌+◌, ◌^◌, true, nat_le, [], ◌∷◌, map, length, Some};
 ghost use Rattle.std.specs.Prelude.{slice_get, IfOk, OnOk};
 ghost use Rattle.exo_tree.specs.Tree.{Procedure};
 ghost use Rattle.exo_tree.specs.PlainProcedure.{procedure};
 ghost use Rattle.exo_tree.specs.PlainUnit.{program};
 ghost use Rattle.exo_meaning.specs.Units.{IsUnit};
 ghost use Rattle.affine_systems.specs.Outcomes.{plain_obligation};
+ghost use Rattle.bounds_check.specs.Obligations.{obligations_of};
+ghost use Rattle.ob_check.specs.Held.{held};
+ghost use Rattle.unit_check.specs.Cached.{discharged_all};
 ghost use Rattle.config_live.specs.Origins.{origin};
 ghost use Rattle.config_live.specs.Places.{side_taken};
 ghost use Rattle.cursor_forward.specs.PlainCursor.{plain_side};
@@ -18,6 +21,7 @@ ghost use Rattle.schedule_calls.specs.PlainRequest.{plain_operation};
 ghost use Rattle.schedule_laws.specs.Versions.Versions.{made_of, started};
 ghost use Rattle.schedule_laws.specs.Versions.Lines.{Apply, performed};
 ghost use Rattle.schedule_laws.specs.Operators.Operators.{call_of};
+ghost use Rattle.schedule_run.specs.Cached.{lists_for, lists_of};
 ghost use Rattle.schedule_run.specs.Outcomes.{Makes, Performs};
 ghost use Rattle.schedule_run.specs.Planned as plans;
 ghost use Rattle.schedule_run.specs.Planned.{has_form, planned_of, stepped, owed_with};
@@ -142,9 +146,15 @@ impl Running {
         gate: &G,
     ) -> Result<u64, Why>
         requires { IsRunning self.now }
-        ensures { (q : Procedure) → slice_get (program self.now.session.unit).procedures p.0 ≡ Some q →
+        ensures exact { (q : Procedure) → slice_get (program self.now.session.unit).procedures p.0 ≡ Some q →
             Makes (λ n.
             n) (owed_with (program self.now.session.unit) (map plain_obligation must.now) q) result }
+        ensures cache { (q : Procedure)
+            → slice_get (program self.now.session.unit).procedures p.0 ≡ Some q
+            → OnOk result (held cache.new ≡ discharged_all (held cache.old)
+            (map plain_obligation must.now
+            ∷ obligations_of (program self.now.session.unit) q
+            ∷ [])) }
     {
         let owed = obligations_with_tables(
             alloc,
@@ -175,6 +185,9 @@ impl Running {
             (stepped (versions_in self.old) bind.now k.0 (plans.Got (plain_proposal made)))
             (versions_in self.new) result }
         ensures running { OnOk result (IsRunning self.new) }
+        ensures cache { OnOk result (held cache.new
+            ≡ discharged_all (held cache.old)
+            (lists_for (versions_in self.old) (plain_proposal made))) }
     {
         let origin = origin_of(alloc, k, &made)?;
         let Proposal {
@@ -205,6 +218,9 @@ impl Running {
         ensures performs { Performs
             (performed (versions_in self.old) (Apply bind.now of.now (call_of (plain_operation operation.now)))) (versions_in self.new) result }
         ensures running { OnOk result (IsRunning self.new) }
+        ensures cache { OnOk result (held cache.new
+            ≡ discharged_all (held cache.old) (lists_of (versions_in self.old)
+            (Apply bind.now of.now (call_of (plain_operation operation.now))))) }
     {
         if !is_formed(&self.session, operation) {
             return Err(Why::BadArguments);
@@ -232,6 +248,9 @@ impl Running {
         ensures performs { Performs
             (performed (versions_in self.old) (Apply bind.now of.now (call_of (plain_operation operation.entry)))) (versions_in self.new) result }
         ensures running { OnOk result (IsRunning self.new) }
+        ensures cache { OnOk result (held cache.new
+            ≡ discharged_all (held cache.old) (lists_of (versions_in self.old)
+            (Apply bind.now of.now (call_of (plain_operation operation.entry))))) }
     {
         let done = self.apply(rt, alloc, bind, of, &operation, cache, gate);
         let_go(operation);

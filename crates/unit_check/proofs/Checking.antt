@@ -33,7 +33,7 @@ pub record StandsAt (ps : List Procedure) (k : ℕ) (q : Procedure) : Type 0 whe
   pub first : drop k ps ≡ q ∷ drop (k + 1) ps
   pub last : take (k + 1) ps ≡ take k ps ++ q ∷ []
 
-stands_at : (ps : List Procedure) (k : ℕ) → k < length ps → (q : Procedure) × StandsAt ps k q
+pub stands_at : (ps : List Procedure) (k : ℕ) → k < length ps → (q : Procedure) × StandsAt ps k q
 stands_at ps k h =
     ⊎_elim
     (λ x. (

@@ -8,3 +8,4 @@ pub mod Safe
 pub mod Found
 pub mod Numbered
 pub mod Placed
+pub mod Caching

@@ -3,3 +3,4 @@ pub mod Checked
 pub mod Outcomes
 pub mod Preorder
 pub mod Laws
+pub mod Cached

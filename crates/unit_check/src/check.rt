@@ -1,5 +1,5 @@
 //! The check of a unit.
-ghost use Rattle.std.specs.Prelude.{◌≡◌, ◌≤◌, All, IfOk, Some, length, slice_get};
+ghost use Rattle.std.specs.Prelude.{◌≡◌, ◌≤◌, All, IfOk, OnOk, Some, length, map, slice_get};
 ghost use Rattle.exo_tree.specs.Tree.{Procedure};
 ghost use Rattle.exo_tree.specs.PlainUnit.{program};
 ghost use Rattle.exo_meaning.specs.Units.{IsUnit};
@@ -9,9 +9,12 @@ ghost use Rattle.exo_modes.specs.Marks.{modes_of};
 ghost use Rattle.exo_modes.specs.Seen.{table_says};
 ghost use Rattle.affine_forms.specs.Affine.{HasNoIntegerPoint};
 ghost use Rattle.bounds_check.specs.Obligations.{Fault, obligations_of};
+ghost use Rattle.ob_check.specs.Entries.{discharged};
+ghost use Rattle.ob_check.specs.Held.{held};
 ghost use Rattle.unit_check.specs.declared.refused.Why.TheVariants.{Memory};
 ghost use Rattle.bounds_check.specs.Outcomes.{IsRefusal};
 ghost use Rattle.unit_check.specs.Checked.{NotListed, cause_of, checked, AllHold};
+ghost use Rattle.unit_check.specs.Cached.{discharged_all, systems_in};
 ghost use Rattle.unit_check.specs.Outcomes.{IsChecked, Answers, IsOf, place_in};
 ghost use Rattle.unit_check.specs.Faults.{NothingFaults};
 
@@ -95,6 +98,10 @@ fn check_procedure<R: Threads + Sync, G: Gate>(
         → slice_get (program unit.now).procedures p.0 ≡ Some q
         → IfOk result
         (λ n. All (λ o. HasNoIntegerPoint o.system) (obligations_of (program unit.now) q)) }
+    ensures cache { (q : Procedure)
+        → slice_get (program unit.now).procedures p.0 ≡ Some q
+        → OnOk result
+        (held cache.new ≡ discharged (held cache.old) (systems_in (obligations_of (program unit.now) q))) }
 {
     let obs = match obligations_with_tables(alloc, unit, writes, modes, p) {
         Ok(list) => list,
@@ -109,8 +116,8 @@ fn check_procedure<R: Threads + Sync, G: Gate>(
 /// Discharges the obligations of each procedure of the unit, in order, and counts them.
 ///
 /// The first procedure that is refused ends the work: by `Check` where its obligations can't be listed, by `NotShown` with
-/// the first obligation whose system is not shown to have no integer point. What the cache held changes no answer.
-/// After Ok no admissible input makes any procedure of the unit fault.
+/// the first obligation whose system is not shown to have no integer point. What the cache held changes no answer; after Ok
+/// it holds what discharging each procedure's list, in order, leaves in it. After Ok no admissible input makes any procedure of the unit fault.
 pub fn check_unit<R: Threads + Sync, G: Gate>(
     rt: &R,
     alloc: Global,
@@ -122,6 +129,9 @@ pub fn check_unit<R: Threads + Sync, G: Gate>(
     ensures exact { IsChecked result (checked (program unit.now)) }
     ensures shown { IfOk result (λ _. AllHold (program unit.now)) }
     ensures no_fault { IfOk result (λ _. NothingFaults (program unit.now)) }
+    ensures cache { OnOk result (held cache.new
+        ≡ discharged_all (held cache.old)
+        (map (obligations_of (program unit.now)) (program unit.now).procedures)) }
 {
     shown_procedures_do_not_fault();
     let writes = match written_table(alloc, unit) {

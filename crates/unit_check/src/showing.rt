@@ -1,10 +1,13 @@
 //! Whether all of some obligations are shown.
-ghost use Rattle.std.specs.Prelude.{◌≡◌, All, IfOk, map};
+ghost use Rattle.std.specs.Prelude.{◌≡◌, All, IfOk, OnOk, map};
 ghost use Rattle.affine_forms.specs.Affine.{HasNoIntegerPoint};
 ghost use Rattle.affine_systems.specs.Outcomes.{plain_obligation};
 ghost use Rattle.affine_prover.specs.Elimination.{elimination};
 ghost use Rattle.ob_check.specs.Answers.{answer_of};
+ghost use Rattle.ob_check.specs.Entries.{discharged};
+ghost use Rattle.ob_check.specs.Held.{held};
 ghost use Rattle.ob_check.specs.Systems.{systems_of};
+ghost use Rattle.unit_check.specs.Cached.{systems_in};
 ghost use Rattle.unit_check.specs.Checked.{first_open};
 ghost use Rattle.unit_check.specs.Outcomes.{Shows};
 ghost use Rattle.unit_check.specs.declared.refused.Why.TheVariants.{NotShown};
@@ -55,6 +58,8 @@ pub fn show<R: Threads + Sync, G: Gate>(
 ) -> Result<(), Why>
     ensures exact { Shows result (first_open (map plain_obligation obs.now)) }
     ensures shown { IfOk result (λ _. All (λ o. HasNoIntegerPoint o.system) (map plain_obligation obs.now)) }
+    ensures cache { OnOk result (held cache.new
+        ≡ discharged (held cache.old) (systems_in (map plain_obligation obs.now))) }
 {
     match discharge(rt, alloc, obs, cache, gate) {
         Ok(answer) => answered(alloc, obs, answer),

@@ -17,6 +17,7 @@ returns-in-Ok g c =
     let laws : StageLaws = record {
       compiled = c.compiled_is_promised.ensures;
       displayed = c.displayed_is_promised.ensures;
+      generated = c.generated_is_promised.ensures;
       checked = c.checked_is_counted.ensures;
     } in
     record { ends = all; promise = λ ok. ends_promised laws _ _ _ _ all ok }

@@ -7,6 +7,7 @@ use Rattle.schedule_laws.specs.Versions.Lines.{Done}
 use Rattle.schedule_run.specs.Runs.{LinesRun, ends}
 use Rattle.schedule_run.specs.Running.{versions_in}
 use Rattle.schedule_run.proofs.Going.{dropped, past_all, goes_on, refused_runs}
+use Rattle.schedule_run.proofs.Caching.{line_behind, lines_cached}
 use Rattle.schedule_run.proofs.run.run_schedule.Goals as goal
 
 pub returns-in-Err-run_line-clause-exact : goal.returns-in-Err-run_line-clause-exact
@@ -35,6 +36,11 @@ loop-index-preserved g c =
           (goes_on k lines (plain_line line) (versions_in c.loop-index.running)
           (dropped plain_line items k line c.index-lines-index.is less)
           _ end c.in_default.ensures.runs h);
+      cached =
+          line_behind lines (started (program c.args.unit) c.args.shown) _ k lines (plain_line line)
+          (versions_in c.loop-index.running) _ _ _
+          (dropped plain_line items k line c.index-lines-index.is less) c.loop-index.invariant.cached
+          c.in_default.ensures.cache;
     }
 
 pub returns-clause-exact : goal.returns-clause-exact
@@ -46,3 +52,12 @@ returns-clause-exact g c =
     c.loop-index.invariant.rest (Done v)
     (subst (λ (l : List tree.Line). LinesRun k l v (Done v)) (sym (past_all plain_line items k past))
     (ends k v))
+
+pub returns-clause-cache : goal.returns-clause-cache
+returns-clause-cache g c =
+    let items = c.args.lines.now in
+    let k = c.loop-index.index in
+    let lines = map plain_line items in
+    let past : length items ≤ k = omega (arith, c.loop-index-test.false) in
+    lines_cached lines (started (program c.args.unit) c.args.shown) _ _ (versions_in c.loop-index.running) _
+    (past_all plain_line items k past) c.loop-index.invariant.cached

@@ -8,6 +8,7 @@ use Rattle.affine_systems.specs.Outcomes.{plain_obligation}
 use Rattle.bounds_check.specs.Obligations.{list_fault, obligations_of}
 use Rattle.bounds_check.specs.Outcomes.{AreObligationsIn}
 use Rattle.unit_check.proofs.Listing.{not_listed, listed, few_listed}
+use Rattle.unit_check.proofs.Caching.{one_list}
 use Rattle.unit_check.proofs.check.check_procedure.Goals as goal
 
 pub returns-in-Err-clause-exact : goal.returns-in-Err-clause-exact
@@ -26,3 +27,9 @@ returns-in-Ok-show-clause-shown g c = λ q at.
     subst (All (λ (o : Owed). HasNoIntegerPoint o.system))
     (ap (map plain_obligation) same ∙ (listed (program c.args.unit.now) c.args.p.0 q c.in-Ok.list c.in-Ok.ensures at).1)
     c.in-Ok-show.ensures.shown
+
+pub returns-in-Ok-show-clause-cache : goal.returns-in-Ok-show-clause-cache
+returns-in-Ok-show-clause-cache g c = λ q at.
+    let same : c.deref.result.now ≡ c.in-Ok.list.items = cc in
+    let is = ap (map plain_obligation) same ∙ (listed (program c.args.unit.now) c.args.p.0 q c.in-Ok.list c.in-Ok.ensures at).1 in
+    c.in-Ok-show.ensures.cache ∙ one_list (map plain_obligation c.deref.result.now) (obligations_of (program c.args.unit.now) q) _ is

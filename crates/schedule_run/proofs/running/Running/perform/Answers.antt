@@ -1,4 +1,7 @@
-use Rattle.std.proofs.Common.{sym, subst}
+use Rattle.std.proofs.Common.{◌≡◌, refl, sym, subst}
+use Rattle.std.specs.Prelude.{OnOk}
+use Rattle.ob_check.specs.Held.{held}
+use Rattle.unit_check.specs.Cached.{discharged_all}
 use Rattle.schedule_calls.specs.PlainRequest.{plain_request}
 use Rattle.schedule_calls.specs.declared.request.Request.{Request}
 use Rattle.schedule_laws.specs.Versions.Lines.{performed}
@@ -6,6 +9,8 @@ use Rattle.schedule_laws.specs.Operators.Operators.{act_of}
 use Rattle.schedule_run.specs.Outcomes.{Performs}
 use Rattle.schedule_run.specs.PlainVersions.{versions}
 use Rattle.schedule_run.specs.Running.{versions_in}
+use Rattle.schedule_run.specs.Cached.{lists_of}
+use Rattle.schedule_run.proofs.Caching.{only_ok}
 use Rattle.schedule_run.proofs.running.Running.perform.Goals as goal
 
 pub returns-in-Apply-clause-performs : goal.returns-in-Apply-clause-performs
@@ -17,3 +22,15 @@ pub returns-in-Search-clause-performs : goal.returns-in-Search-clause-performs
 returns-in-Search-clause-performs g c =
     subst (λ (r : Request). Performs (performed (versions_in c.args.self.now) (act_of (plain_request r))) (versions c.search_owned.new.self) c.search_owned.result)
     (sym c.in-Search.is) c.search_owned.ensures.performs
+
+pub returns-in-Apply-clause-cache : goal.returns-in-Apply-clause-cache
+returns-in-Apply-clause-cache g c =
+    subst (λ (r : Request). OnOk c.apply_owned.result (held c.apply_owned.new.cache
+    ≡ discharged_all (held c.args.cache.now) (lists_of (versions_in c.args.self.now) (act_of (plain_request r)))))
+    (sym c.in-Apply.is) c.apply_owned.ensures.cache
+
+pub returns-in-Search-clause-cache : goal.returns-in-Search-clause-cache
+returns-in-Search-clause-cache g c =
+    subst (λ (r : Request). OnOk c.search_owned.result (held c.args.cache.now
+    ≡ discharged_all (held c.args.cache.now) (lists_of (versions_in c.args.self.now) (act_of (plain_request r)))))
+    (sym c.in-Search.is) (only_ok c.search_owned.result refl)

@@ -12,11 +12,13 @@ use Rattle.schedule_run.specs.Outcomes.{Makes}
 use Rattle.schedule_run.specs.Planned.{Made, Got, owed_with}
 use Rattle.schedule_run.specs.PlainWhy.{why_of_show}
 use Rattle.schedule_run.proofs.Answering.{first_refused, second_refused, all_shown}
+use Rattle.bounds_check.specs.Obligations.{obligations_of}
+use Rattle.schedule_run.proofs.Caching.{only_ok, two_lists}
 use Rattle.schedule_run.proofs.Going.{made_failed}
 use Rattle.schedule_run.proofs.running.Running.shown.Goals as goal
 
-pub returns-in_err-show : goal.returns-in_err-show
-returns-in_err-show g c = λ q at.
+pub returns-in_err-show-clause-exact : goal.returns-in_err-show-clause-exact
+returns-in_err-show-clause-exact g c = λ q at.
     let u = program c.args.self.now.session.unit in
     let must = map plain_obligation c.args.must.now in
     let ok = subst (λ (o : Option Procedure). AreObligationsIn {A = Global} (Ok c.in_ok-owed.owed) u o) at
@@ -26,8 +28,8 @@ returns-in_err-show g c = λ q at.
     (first_refused u must (map plain_obligation c.in_ok-owed.owed.items) q ok.0 ok.1
     c.in_err-show.field-0.0 c.in_err-show.ensures.exact)
 
-pub returns-in_err-show-2 : goal.returns-in_err-show-2
-returns-in_err-show-2 g c = λ q at.
+pub returns-in_err-show-2-clause-exact : goal.returns-in_err-show-2-clause-exact
+returns-in_err-show-2-clause-exact g c = λ q at.
     let u = program c.args.self.now.session.unit in
     let must = map plain_obligation c.args.must.now in
     let e = c.in_err-show-2.field-0.0 in
@@ -40,8 +42,8 @@ returns-in_err-show-2 g c = λ q at.
     (subst (λ (os : List Obligation). Shows {A = Unit {0}} (Err e) (first_open (map plain_obligation os)))
     c.deref.ensures.value c.in_err-show-2.ensures.exact))
 
-pub returns : goal.returns
-returns g c = λ q at.
+pub returns-clause-exact : goal.returns-clause-exact
+returns-clause-exact g c = λ q at.
     let u = program c.args.self.now.session.unit in
     let must = map plain_obligation c.args.must.now in
     let owed = map plain_obligation c.in_ok-owed.owed.items in
@@ -54,3 +56,13 @@ returns g c = λ q at.
     ∙ sym (all_shown u must owed q ok.0 ok.1 c.in_ok-show.ensures.exact
     (ap (λ os. first_open (map plain_obligation os)) (sym c.deref.ensures.value) ∙ c.in_ok-show-2.ensures.exact)))
     c.total.ensures
+
+pub returns-clause-cache : goal.returns-clause-cache
+returns-clause-cache g c = λ q at.
+    let u = program c.args.self.now.session.unit in
+    let ok = subst (λ (o : Option Procedure). AreObligationsIn {A = Global} (Ok c.in_ok-owed.owed) u o) at
+    c.in_ok-owed.ensures in
+    only_ok c.total.result
+    (two_lists _ _ _ (map plain_obligation c.args.must.now) (map plain_obligation c.deref.result.now)
+    (obligations_of u q) c.in_ok-show.ensures.cache c.in_ok-show-2.ensures.cache
+    (ap (map plain_obligation) c.deref.ensures.value ∙ ok.1))

@@ -1,0 +1,61 @@
+// The texts of a number, and what they come to.
+ghost use Rattle.std.specs.Prelude.{◌≡◌, IfSome, string_bytes};
+ghost use Rattle.schedule_run.specs.PlainVersions.{versions};
+ghost use Rattle.compile_stages.specs.Stages.{Generates, line_count, summed};
+ghost use Rattle.compile_stages.specs.Stopping.{stage};
+
+use crate::lowering::printed;
+use crate::messages;
+use crate::printings::printings;
+use crate::stages::scheduled;
+use crate::stop::Stop;
+use generated_texts::{procedures, schedule_text, unit_text};
+use ob_check::Gate;
+use schedule_run::Session;
+use std::alloc::Global;
+use std::thread::Threads;
+
+/// Compiles the unit of the number by its schedule: how many procedures and steps there are, how
+/// much was shown, and how many lines the C has.
+pub fn generated<R: Threads + Sync, G: Gate>(
+    rt: &R,
+    alloc: Global,
+    n: u32,
+    gate: &G,
+) -> Result<String, Stop>
+    ensures { IfSome (stage string_bytes result) (Generates n) }
+{
+    let unit = unit_text(alloc, n)?;
+    let schedule = schedule_text(alloc, n)?;
+    let session = scheduled(rt, alloc, unit.as_bytes(), schedule.as_bytes(), gate)?;
+    summed(alloc, n, &session)
+}
+
+/// The summary of the versions that the texts of the number make.
+fn summed(alloc: Global, n: u32, session: &Session) -> Result<String, Stop>
+    ensures { IfSome (stage string_bytes result) (λ s. s ≡ summed n (versions session.now)) }
+{
+    let what = printings(alloc, session)?;
+    let text = printed(alloc, &session.unit, &what)?;
+    let lines = line_count(&text);
+    Ok(messages::summary(
+        alloc,
+        procedures(n),
+        session.steps,
+        session.obligations,
+        lines,
+    )?)
+}
+
+/// How many lines the text has, each of which ends with a line feed.
+fn line_count(text: &str) -> usize
+    ensures { result ≡ line_count text.now }
+{
+    let mut count = 0usize;
+    for byte in text.as_bytes() {
+        if *byte == b'\n' {
+            count += 1;
+        }
+    }
+    count
+}
