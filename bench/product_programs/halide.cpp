@@ -1,7 +1,8 @@
-// Halide's product by four tilings of the result, of which the one that is fastest at its first calls is kept; one thread.
+// Halide's product by four tilings of the result, of which the one that is fastest at some calls is kept; one thread.
 #include <Halide.h>
-#include <chrono>
+#include <algorithm>
 #include <cstdint>
+#include <ctime>
 #include <memory>
 #include <vector>
 using namespace Halide;
@@ -32,7 +33,12 @@ struct Product {
     }
 };
 
-double now() { return std::chrono::duration<double>(std::chrono::steady_clock::now().time_since_epoch()).count(); }
+// Seconds of this thread on a processor.
+double now() {
+    timespec t;
+    clock_gettime(CLOCK_THREAD_CPUTIME_ID, &t);
+    return t.tv_sec + 1e-9 * t.tv_nsec;
+}
 
 }  // namespace
 
@@ -47,10 +53,14 @@ extern "C" void halide(int64_t M, int64_t N, int64_t K, int32_t *A, int32_t *B, 
         for (auto &t : tilings) {
             auto tried = std::make_unique<Product>(t[0], t[1], t[2], lanes);
             tried->run(M, N, K, A, B, spare.data());
-            double start = now();
-            tried->run(M, N, K, A, B, spare.data());
-            if (now() - start < least) {
-                least = now() - start;
+            double took = 1e30;
+            for (int k = 0; k < 3; k++) {
+                double start = now();
+                tried->run(M, N, K, A, B, spare.data());
+                took = std::min(took, now() - start);
+            }
+            if (took < least) {
+                least = took;
                 best = std::move(tried);
             }
         }

@@ -23,10 +23,10 @@ static double now(void) {
     return (double)t.tv_sec + 1e-9 * (double)t.tv_nsec;
 }
 
-/* The least time of up to seven runs, of fewer where two take four seconds, each on the same matrices. */
+/* The least time of two to fifteen runs, each on the same matrices, of some four seconds in all. */
 static double least(kernel *run, int64_t n, int32_t *a, int32_t *b, int32_t *c) {
     double best = 1e30, start = now();
-    for (int k = 0; k < 2 || (k < 7 && now() - start < 4.0); k++) {
+    for (int k = 0; k < 2 || (k < 15 && now() - start < 4.0); k++) {
         memset(c, 0, (size_t)(n * n) * sizeof(int32_t));
         double t = now();
         run(n, n, n, a, b, c);
