@@ -78,17 +78,17 @@ module _ (scene : Scene) where
 
   -- ---- literals
 
+  -- positive dimensions have some cells
   abbrev HasSome : (ℕ → ℕ) → List Control → Control → Type 0
   HasSome most ds c = all_positive (numbers scene (c ∷ ds)) ≡ true → 1 ≤ cells_magnitude most (c ∷ ds)
 
-  -- there are some cells
   some_cells : (most : ℕ → ℕ) (ds : List Control) → AreLiterals ds → all_positive (numbers scene ds) ≡ true → 1 ≤ cells_magnitude most ds
   some_cells most [] h p = omega arith
-  some_cells most (d ∷ ds) h p = subst (HasSome most ds) (sym h.0.1) (of_literal h.0.0) p
+  some_cells most (d ∷ ds) h p = subst (HasSome most ds) (sym h.0.1) (some_of h.0.0) p
     where
-      of_literal : (z : ℤ) → HasSome most ds (Lit z)
-      of_literal (negsuc k) q = absurd (true≢false (sym (and_parts (int_le (pos 1) (negsuc k)) (all_positive (numbers scene ds)) q).0))
-      of_literal (pos k) q =
+      some_of : (z : ℤ) → HasSome most ds (Lit z)
+      some_of (negsuc k) q = absurd (true≢false (sym (and_parts (int_le (pos 1) (negsuc k)) (all_positive (numbers scene ds)) q).0))
+      some_of (pos k) q =
           let parts = and_parts (int_le (pos 1) (pos k)) (all_positive (numbers scene ds)) q in
           let some : 1 ≤ k = at_least k parts.0 in
           omega (arith, mul-le 1 k 1 (cells_magnitude most ds) some (some_cells most ds h.1 parts.1))

@@ -1,5 +1,5 @@
 -- Numbers of cells, as a loop multiplies them, and of vectors.
-use Rattle.std.proofs.Common.{◌≡◌, ◌≤◌, ◌<◌, ◌-◌, ◌*◌, ◌&&◌, ℕ, zero, suc, min, true, false, List, [], ◌∷◌, map, take, length, refl, sym, ap, ◌∙◌, arith, ⊎_elim}
+use Rattle.std.proofs.Common.{◌≡◌, ◌≤◌, ◌<◌, ◌-◌, ◌*◌, ◌&&◌, ℕ, zero, suc, min, Bool, true, false, List, [], ◌∷◌, map, take, length, refl, sym, ap, ◌∙◌, arith, ⊎_elim}
 use Rattle.std.proofs.Math.Nat.{le_refl}
 use Rattle.std.proofs.lemmas.Bool.{lt-leb, cases_lt}
 use Rattle.std.proofs.lemmas.List.{take-map, length-map}
@@ -38,20 +38,26 @@ not_kept n (suc p) h =
     past : (m : ℕ) → 18446744073709551615 ≤ m → fits m ≡ false
     past m k = lt-leb m 4611686018427387904 (omega arith)
 
--- the next dimension, by a product that stops at the greatest number of 64 bits
-pub fit_more : (most : ℕ → ℕ) (n r : ℕ) (d : Control) (ds : List Control) → r ≡ min (n * magnitude most d) 18446744073709551615 → is_narrow most d ≡ true → fit_times most r ds ≡ fit_times most n (d ∷ ds)
-fit_more most n r d ds e h =
-    ap (λ t. are_narrow most ds && t) (⊎_elim below above (cases_lt (n * magnitude most d) 18446744073709551615))
-    ∙ sym (ap (λ t. t && are_narrow most ds && fits (n * (magnitude most d * cells_magnitude most ds))) h)
+-- one more factor, in a product that stops at the greatest number of 64 bits
+kept_fits : (n m p r : ℕ) → r ≡ min (n * m) 18446744073709551615 → fits (r * p) ≡ fits (n * (m * p))
+kept_fits n m p r e = ⊎_elim below above (cases_lt (n * m) 18446744073709551615)
   where
-    behind : n * magnitude most d * cells_magnitude most ds ≡ n * (magnitude most d * cells_magnitude most ds)
+    behind : n * m * p ≡ n * (m * p)
     behind = omega arith
 
-    below : n * magnitude most d < 18446744073709551615 → fits (r * cells_magnitude most ds) ≡ fits (n * (magnitude most d * cells_magnitude most ds))
-    below k = let same : r ≡ n * magnitude most d = omega (arith, e, k) in ap (λ q. fits (q * cells_magnitude most ds)) same ∙ ap fits behind
+    below : n * m < 18446744073709551615 → fits (r * p) ≡ fits (n * (m * p))
+    below k = let same : r ≡ n * m = omega (arith, e, k) in ap (λ q. fits (q * p)) same ∙ ap fits behind
 
-    above : 18446744073709551615 ≤ n * magnitude most d → fits (r * cells_magnitude most ds) ≡ fits (n * (magnitude most d * cells_magnitude most ds))
-    above k = let most_of_all : r ≡ 18446744073709551615 = omega (arith, e, k) in ap (λ q. fits (q * cells_magnitude most ds)) most_of_all ∙ not_kept (n * magnitude most d) (cells_magnitude most ds) k ∙ ap fits behind
+    above : 18446744073709551615 ≤ n * m → fits (r * p) ≡ fits (n * (m * p))
+    above k =
+        let greatest : r ≡ 18446744073709551615 = omega (arith, e, k) in
+        ap (λ q. fits (q * p)) greatest ∙ not_kept (n * m) p k ∙ ap fits behind
+
+-- the next dimension
+pub fit_more : (most : ℕ → ℕ) (n r : ℕ) (d : Control) (ds : List Control) → r ≡ min (n * magnitude most d) 18446744073709551615 → is_narrow most d ≡ true → fit_times most r ds ≡ fit_times most n (d ∷ ds)
+fit_more most n r d ds e h =
+    ap (λ t. are_narrow most ds && t) (kept_fits n (magnitude most d) (cells_magnitude most ds) r e)
+    ∙ sym (ap (λ t. t && are_narrow most ds && fits (n * (magnitude most d * cells_magnitude most ds))) h)
 
 -- the dimensions of vectors are all but the last
 pub own_part : {A : Type 0} (plain : A → Control) (lanes : ℕ) (all : List A) (ds : List Control) → (lanes ≡ 0 → ⊥) → map plain all ≡ ds → map plain (take (length all - 1) all) ≡ own_dims lanes ds
