@@ -17,8 +17,8 @@ loop-d-preserved c =
     let d = control c.d-item.result in
     let rest = map control (drop (c.loop-d.d-index + 1) c.args.dims.now) in
     let here = drop_here c.args.dims.now c.loop-d.d-index c.d-item.result c.loop-d-test.true c.d-item.is in
-    fit_more most c.loop-d.cells c.saturating_mul.result d rest
-    (c.saturating_mul.ensures ∙ ap (λ m. min (c.loop-d.cells * m) 18446744073709551615) c.in-Some.ensures.value)
+    fit_more most c.loop-d.cells c.saturating_mul-cells.result d rest
+    (c.saturating_mul-cells.ensures ∙ ap (λ m. min (c.loop-d.cells * m) 18446744073709551615) c.in-Some.ensures.value)
     (sym c.in-Some.ensures.there)
     ∙ sym (ap (λ l. fit_times most c.loop-d.cells (map control l)) here)
     ∙ c.loop-d.invariant
