@@ -73,9 +73,8 @@ pub(crate) fn decide_all<'a, R: Threads + Sync, G: Gate>(
         size,
         &|start, chunk|
             requires { 0 < size }
-            ensures {
-                IfOk result (λ v. map system_known v.items ≡ map (λ s. plain_system s.now) chunk.entry.now)
-            }
+            ensures { IfOk result (λ v. map system_known v.items
+                ≡ map (λ s. plain_system s.now) chunk.entry.now) }
         { decide_chunk(alloc, chunk, start / size, gate) },
     )?;
     joined(alloc, chunks)
