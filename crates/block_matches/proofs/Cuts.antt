@@ -53,14 +53,14 @@ cut_pushed f n xs ys a last h l e =
     ap (map f) e ∙ (map-append f (take n xs) (last ∷ [])
     ∙ (ap (λ b. map f (take n xs) ++ b ∷ []) l ∙ cut_there f n xs a h))
 
-pub cut_all : (params bound own : ℕ → Bool) (to : ℕ → Option ℕ) (seen : ℕ → Bool)
+pub cut_all : (params bound : ℕ → Bool) (to : ℕ → Option ℕ) (seen : ℕ → Bool)
     (pairs done : List Pair) (n : ℕ)
-    → done ≡ cut_at n pairs → n ≡ kept own bound to seen pairs → seen ≡ (λ x. false)
-    → own ≡ params → done ≡ walked params bound to (λ x. false) pairs
-cut_all params bound own to seen pairs done n h k e f =
-    h ∙ (ap (λ m. cut_at m pairs) k ∙ (ap (λ s. cut_at (kept own bound to s pairs) pairs) e
-    ∙ (sym (walk_is_cut own bound to (λ x. false) pairs)
-    ∙ ap (λ ids. walked ids bound to (λ x. false) pairs) f)))
+    → done ≡ cut_at n pairs → n ≡ kept params bound to seen pairs → seen ≡ (λ x. false)
+    → done ≡ walked params bound to (λ x. false) pairs
+cut_all params bound to seen pairs done n h k e =
+    h ∙ (ap (λ m. cut_at m pairs) k
+    ∙ (ap (λ s. cut_at (kept params bound to s pairs) pairs) e
+    ∙ sym (walk_is_cut params bound to (λ x. false) pairs)))
 
 -- ---- a pair more is before the end
 

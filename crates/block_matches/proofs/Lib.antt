@@ -1,7 +1,7 @@
 pub mod Accesses
 pub mod Agreed
+pub mod AllKnown
 pub mod Asked
-pub mod Both
 pub mod Choices
 pub mod Cuts
 pub mod MatchedBy

@@ -1,7 +1,7 @@
 pub mod Choices
 pub mod Held
 pub mod Kept
-pub mod MovedPairs
+pub mod Known
 pub mod Noted
 pub mod PlainGiven
 pub mod PlainMatched

@@ -27,6 +27,7 @@ use block_pairs::{Buffer, IdSet, NameTable};
 use exo_tree::{Arg, Coord, Coords, Ctrl, Id, Indices};
 use simple_forms::simpler;
 use std::alloc::{AllocError, Global};
+use tree_mentions::Names;
 
 /// What windows of a buffer parameter are made by: what the block reads, the callee's expressions
 /// in the block's names, the block's own names, and what is known of the names of its procedure.

@@ -11,6 +11,7 @@ ghost use Rattle.tree_uses.specs.Outcomes.{ComesIf};
 
 use crate::agreeing::{agree, conditions_agree};
 use crate::moving::Moving;
+use crate::walked::path_of;
 use affine_forms::{FormError, Reader};
 use block_pairs::Pair;
 use exo_tree::{Cond, Ctrl, Path};
@@ -73,20 +74,6 @@ fn differs<R: Reader>(
         Pair::Own(_, _, _) => Ok(false),
         Pair::Access(_, _, _, _, _) => Ok(false),
         Pair::Unlike(_) => Ok(true),
-    }
-}
-
-/// The place of a pair; binders have none.
-fn path_of(pair: &Pair<'_>) -> Path
-    ensures { result ≡ plain.path_of (plain_pair pair.now) }
-{
-    match pair {
-        Pair::Numbers(at, _, _, _) => at.duplicate(),
-        Pair::Truths(at, _, _, _) => at.duplicate(),
-        Pair::Binders(_, _) => Path::new(),
-        Pair::Own(at, _, _) => at.duplicate(),
-        Pair::Access(at, _, _, _, _) => at.duplicate(),
-        Pair::Unlike(at) => at.duplicate(),
     }
 }
 

@@ -1,9 +1,9 @@
 //! Binders that correspond.
 ghost use Rattle.std.specs.Prelude.{◌≡◌, None, map, option_map, IfOk, OnOk};
-ghost use Rattle.match_laws.specs.Matched.{partner};
+ghost use Rattle.match_laws.specs.Matched.{partner, partner_if};
 ghost use Rattle.block_pairs.specs.PlainPair.{plain_pair};
 ghost use Rattle.block_matches.specs.Held.{partners_in};
-ghost use Rattle.block_matches.specs.Noted.{with_first, with_partner, with_partners};
+ghost use Rattle.block_matches.specs.Noted.{earlier, entry};
 
 use block_pairs::Pair;
 use exo_tree::Id;
@@ -18,11 +18,14 @@ pub(crate) struct Partners {
 
 impl Partners {
     /// By the first pair of binders.
+    #[tactic(auto, using(crate::proofs::Tables::all_noted, crate::proofs::Tables::one_noted))]
     pub(crate) fn of(alloc: Global, pairs: &[Pair<'_>]) -> Result<Partners, AllocError>
         ensures { IfOk result (λ t. partners_in t ≡ partner (map plain_pair pairs.now)) }
     {
         let mut found = Partners::new(alloc);
-        found.note_all(pairs)?;
+        for pair in pairs {
+            found.note(pair)?;
+        }
         Ok(found)
     }
 
@@ -44,9 +47,10 @@ impl Partners {
     }
 
     /// A partner, where the binder has none.
-    #[tactic(auto, unfolding(crate::specs::Noted::with_first))]
+    #[tactic(auto, using(crate::proofs::Tables::stays, crate::proofs::Tables::is_put))]
     fn insert(&mut self, x: Id, y: Id) -> Result<(), AllocError>
-        ensures { OnOk result (partners_in self.new ≡ with_first x.0 y.0 (partners_in self.old)) }
+        ensures { OnOk result (partners_in self.new
+            ≡ earlier (partners_in self.old) (entry x.0 y.0)) }
     {
         if self.table.get(&x.0).is_none() {
             self.table.insert(x.0, y.0)?;
@@ -54,23 +58,14 @@ impl Partners {
         Ok(())
     }
 
+    #[tactic(auto, using(crate::proofs::Tables::nothing_more))]
     fn note(&mut self, pair: &Pair<'_>) -> Result<(), AllocError>
         ensures { OnOk result (partners_in self.new
-            ≡ with_partner (plain_pair pair.now) (partners_in self.old)) }
+            ≡ earlier (partners_in self.old) (λ x. partner_if x (plain_pair pair.now))) }
     {
         match pair {
             Pair::Binders(x, y) => self.insert(*x, *y),
             _ => Ok(()),
         }
-    }
-
-    fn note_all(&mut self, pairs: &[Pair<'_>]) -> Result<(), AllocError>
-        ensures { OnOk result (partners_in self.new
-            ≡ with_partners (map plain_pair pairs.now) (partners_in self.old)) }
-    {
-        for pair in pairs {
-            self.note(pair)?;
-        }
-        Ok(())
     }
 }

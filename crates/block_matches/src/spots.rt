@@ -17,11 +17,11 @@ use crate::agreeing::agree;
 use crate::arguments::Windows;
 use crate::uses::Use;
 use affine_forms::{FormError, Reader};
-use block_pairs::IdSet;
-use exo_tree::{Coord, Ctrl, Id};
+use block_pairs::difference;
+use exo_tree::{Coord, Ctrl};
 use simple_forms::simpler;
 use std::alloc::{AllocError, Global};
-use tree_mentions::{Names, in_control};
+use tree_mentions::in_control;
 
 /// At a listed dimension the difference of the two lower ends, elsewhere the point that stands
 /// there.
@@ -29,30 +29,6 @@ use tree_mentions::{Names, in_control};
 pub(crate) enum Spot {
     Offset(Ctrl),
     Point(Ctrl),
-}
-
-/// The block's own names.
-#[derive(Clone, Copy)]
-struct Bound<'a> {
-    ids: &'a IdSet,
-}
-
-impl Names for Bound<'_> {
-    ghost use Rattle.block_pairs.specs.Held.{ids_in};
-
-    ghost names = { λ b. ids_in b.ids.now };
-
-    fn has(&self, x: Id) -> bool {
-        self.ids.has(x)
-    }
-}
-
-/// The difference of two expressions.
-fn difference(alloc: Global, a: &Ctrl, b: &Ctrl) -> Result<Ctrl, AllocError>
-    ensures { IfOk result (λ e. control e ≡ tree.Sub (control a.now) (control b.now)) }
-{
-    let left = Box::new(alloc, a.duplicate(alloc)?)?;
-    Ok(Ctrl::Sub(left, Box::new(alloc, b.duplicate(alloc)?)?))
 }
 
 /// A spot before those of the later dimensions; None where one is not known.
@@ -286,7 +262,7 @@ impl<R: Reader> Windows<'_, R> {
     fn is_free(&self, e: &Ctrl) -> bool
         ensures { result ≡ not (in_control (ids_in self.now.bound.now) (control e.now)) }
     {
-        !in_control(&Bound { ids: self.bound }, e)
+        !in_control(self.bound, e)
     }
 
     /// Whether spots mention none of the block's own names, offsets as they are written. Each

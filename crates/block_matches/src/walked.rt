@@ -10,35 +10,20 @@ ghost use Rattle.block_matches.specs.Held.{partners_in};
 ghost use Rattle.block_matches.specs.Kept.{kept, cut_at};
 ghost use Rattle.block_matches.specs.PlainGiven.{plain_given, plain_known};
 
-use crate::given::{Given, Known, known_by, params_of};
+use crate::given::{Given, Known, known_by};
 use crate::partners::Partners;
 use block_pairs::{IdSet, Pair};
-use exo_tree::{Id, Path, Proc};
+use exo_tree::{Path, Proc};
 use std::alloc::{AllocError, Global};
 use tree_mentions::{Names, in_condition, in_control};
-
-/// The names that the block binds.
-#[derive(Clone, Copy)]
-struct Bound<'a> {
-    ids: &'a IdSet,
-}
-
-impl Names for Bound<'_> {
-    ghost names = { λ b. ids_in b.ids.now };
-
-    fn has(&self, x: Id) -> bool {
-        self.ids.has(x)
-    }
-}
 
 /// Whether an argument holds a name that the block binds.
 fn holds_bound(bound: &IdSet, argument: Given<'_>) -> bool
     ensures { result ≡ plain.holds_bound (ids_in bound.now) (plain_given argument.entry) }
 {
-    let names = Bound { ids: bound };
     match argument {
-        Given::Number(e) => in_control(&names, e),
-        Given::Truth(c) => in_condition(&names, c),
+        Given::Number(e) => in_control(bound, e),
+        Given::Truth(c) => in_condition(bound, c),
         Given::Whole(_) | Given::Window(_, _) => false,
     }
 }
@@ -69,29 +54,31 @@ fn is_own_unlike(to: &Partners, pair: &Pair<'_>) -> bool
     }
 }
 
-/// What decides where the walk ends: the callee's parameters, the names that the block binds, and
-/// the binders that correspond.
+/// What decides where the walk ends: the callee, the names that the block binds, and the binders
+/// that correspond.
 #[derive(Clone, Copy)]
 struct Walker<'a> {
-    params: &'a IdSet,
+    callee: &'a Proc,
     bound: &'a IdSet,
     to: &'a Partners,
 }
 
 impl Walker<'_> {
     fn ends_at(&self, seen: &IdSet, pair: &Pair<'_>) -> bool
-        ensures { result ≡ plain.ends_at (ids_in self.now.params.now) (ids_in self.now.bound.now)
-            (partners_in self.now.to.now) (ids_in seen.now) (plain_pair pair.now) }
+        ensures { result ≡ plain.ends_at (is_param (procedure self.now.callee.now))
+            (ids_in self.now.bound.now) (partners_in self.now.to.now) (ids_in seen.now)
+            (plain_pair pair.now) }
     {
-        is_own_unlike(self.to, pair) || is_caught(seen, self.bound, known_by(self.params, pair))
+        is_own_unlike(self.to, pair) || is_caught(seen, self.bound, known_by(self.callee, pair))
     }
 
     /// The parameter that a pair determines is seen.
     fn see(&self, seen: &mut IdSet, pair: &Pair<'_>) -> Result<(), AllocError>
         ensures { OnOk result (ids_in seen.new ≡ plain.seen_with
-            (plain.known_by (ids_in self.now.params.now) (plain_pair pair.now)) (ids_in seen.old)) }
+            (plain.known_by (is_param (procedure self.now.callee.now)) (plain_pair pair.now))
+            (ids_in seen.old)) }
     {
-        match known_by(self.params, pair) {
+        match known_by(self.callee, pair) {
             None => Ok(()),
             Some(known) => seen.insert(known.param),
         }
@@ -99,7 +86,7 @@ impl Walker<'_> {
 
     /// How many pairs are before the first one at which the walk ends.
     fn kept(&self, seen: &mut IdSet, pairs: &[Pair<'_>]) -> Result<usize, AllocError>
-        ensures { IfOk result (λ n. n ≡ kept (ids_in self.now.params.now)
+        ensures { IfOk result (λ n. n ≡ kept (is_param (procedure self.now.callee.now))
             (ids_in self.now.bound.now) (partners_in self.now.to.now) (ids_in seen.old)
             (map plain_pair pairs.now)) }
     {
@@ -114,8 +101,8 @@ impl Walker<'_> {
     }
 }
 
-/// The path of a pair in the callee's body.
-fn path_of(pair: &Pair<'_>) -> Path
+/// The path of a pair in the callee's body; binders have none.
+pub(crate) fn path_of(pair: &Pair<'_>) -> Path
     ensures { result ≡ plain.path_of (plain_pair pair.now) }
 {
     match pair {
@@ -154,12 +141,7 @@ pub(crate) fn walked<'a>(
         ≡ walked (is_param (procedure callee.now)) (ids_in bound.now) (partners_in to.now)
         (λ x. false) (map plain_pair pairs.entry.items)) }
 {
-    let params = params_of(alloc, callee)?;
-    let walker = Walker {
-        params: &params,
-        bound,
-        to,
-    };
+    let walker = Walker { callee, bound, to };
     let end = walker.kept(&mut IdSet::new(alloc), &pairs)?;
     cut_at(end, pairs)
 }

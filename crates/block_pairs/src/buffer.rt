@@ -18,13 +18,12 @@ pub struct Buffer {
     pub tensor: bool,
 }
 
-/// The extent of a span.
-fn extent(alloc: Global, from: &Ctrl, to: &Ctrl) -> Result<Ctrl, AllocError>
-    ensures { IfOk result (λ e. control e ≡ tree.Sub (control to.now) (control from.now)) }
+/// The difference of two expressions.
+pub fn difference(alloc: Global, a: &Ctrl, b: &Ctrl) -> Result<Ctrl, AllocError>
+    ensures { IfOk result (λ e. control e ≡ tree.Sub (control a.now) (control b.now)) }
 {
-    let high = Box::new(alloc, to.duplicate(alloc)?)?;
-    let low = Box::new(alloc, from.duplicate(alloc)?)?;
-    Ok(Ctrl::Sub(high, low))
+    let left = Box::new(alloc, a.duplicate(alloc)?)?;
+    Ok(Ctrl::Sub(left, Box::new(alloc, b.duplicate(alloc)?)?))
 }
 
 /// Puts the extents of spans last.
@@ -35,7 +34,7 @@ fn push_extents(alloc: Global, made: &mut Indices, coords: &[Coord]) -> Result<(
         None => Ok(()),
         Some((Coord::At(_), rest)) => push_extents(alloc, made, rest),
         Some((Coord::Span(from, to), rest)) => {
-            made.push(extent(alloc, from, to)?)?;
+            made.push(difference(alloc, to, from)?)?;
             push_extents(alloc, made, rest)
         }
     }

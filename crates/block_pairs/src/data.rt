@@ -4,8 +4,6 @@ ghost use Rattle.std.specs.Option.{option_copied};
 ghost use Rattle.exo_tree.specs.PlainArgument.{argument};
 ghost use Rattle.exo_tree.specs.PlainControl.{control, coordinate};
 ghost use Rattle.exo_tree.specs.PlainDatum.{datum};
-ghost use Rattle.exo_tree.specs.PlainParam.{parameter};
-ghost use Rattle.exo_meaning.specs.Inputs.{is_buffer_of};
 ghost use Rattle.match_laws.specs.Names as names;
 ghost use Rattle.match_laws.specs.Pairs as plain;
 ghost use Rattle.block_pairs.specs.PlainBuffer.{plain_buffer};
@@ -14,10 +12,12 @@ ghost use Rattle.block_pairs.specs.Walks.{in_walk, meeting};
 
 use crate::buffer::Buffer;
 use crate::coordinates::{points, whole_of};
+use crate::names::is_param;
 use crate::pair::{Pair, push, push_numbers, push_unlike};
 use crate::walk::Walk;
-use exo_tree::{Arg, Coord, Coords, Ctrl, DataExpr, Id, Indices, Param, Path};
+use exo_tree::{Arg, Coord, Coords, Ctrl, DataExpr, Id, Indices, Path};
 use std::alloc::{AllocError, Global};
+use tree_mentions::Names;
 
 /// How a name of the callee meets a name of the block.
 #[derive(Clone, Copy)]
@@ -49,16 +49,6 @@ fn whole(alloc: Global, known: Option<&Buffer>) -> Result<Coords, AllocError>
     match known {
         Some(b) => whole_of(alloc, &b.extents),
         None => Ok(Coords::new(alloc)),
-    }
-}
-
-/// Whether a name is that of a parameter.
-fn is_param(params: &[Param], x: Id) -> bool
-    ensures { result ≡ is_buffer_of x.0 (map parameter params.now) }
-{
-    match params.split_first() {
-        None => false,
-        Some((p, rest)) => x.0 == p.binder.id.0 || is_param(rest, x),
     }
 }
 

@@ -8,11 +8,20 @@ ghost use Rattle.block_pairs.specs.Held.{ids_in};
 use exo_tree::{Block, Id, Stmt};
 use indexmap::IndexSet;
 use std::alloc::{AllocError, Global};
+use tree_mentions::Names;
 
 /// A set of ids.
 #[derive(Drop)]
 pub struct IdSet {
     pub(crate) set: IndexSet<u32>,
+}
+
+impl Names for IdSet {
+    ghost names = { ids_in };
+
+    fn has(&self, x: Id) -> bool {
+        self.set.contains(&x.0)
+    }
 }
 
 impl IdSet {
@@ -23,13 +32,6 @@ impl IdSet {
         IdSet {
             set: IndexSet::new(alloc),
         }
-    }
-
-    /// Whether an id is in it.
-    pub fn has(&self, x: Id) -> bool
-        ensures { result ≡ ids_in self.now x.0 }
-    {
-        self.set.contains(&x.0)
     }
 
     /// One id more.

@@ -11,8 +11,8 @@ mod pair;
 mod statements;
 mod walk;
 
-pub use buffer::Buffer;
+pub use buffer::{Buffer, difference};
 pub use ids::IdSet;
-pub use names::NameTable;
+pub use names::{NameTable, is_param};
 pub use pair::Pair;
 pub use walk::Walk;

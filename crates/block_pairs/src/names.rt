@@ -1,10 +1,11 @@
 //! What is known of the names of a procedure.
-ghost use Rattle.std.specs.Prelude.{◌≡◌, Some, None, option_map, IfOk, OnOk};
+ghost use Rattle.std.specs.Prelude.{◌≡◌, Some, None, map, option_map, IfOk, OnOk};
 ghost use Rattle.std.specs.Option.{option_copied};
 ghost use Rattle.exo_tree.specs.Tree.{block};
-ghost use Rattle.exo_tree.specs.PlainParam.{parameter_kind};
+ghost use Rattle.exo_tree.specs.PlainParam.{parameter, parameter_kind};
 ghost use Rattle.exo_tree.specs.PlainProcedure.{procedure};
 ghost use Rattle.exo_tree.specs.PlainStatement.{statement};
+ghost use Rattle.exo_meaning.specs.Inputs.{is_buffer_of};
 ghost use Rattle.exo_meaning.specs.Scene.{updated};
 ghost use Rattle.match_laws.specs.Names.{with_kind, with_params, with_block, with_statement};
 ghost use Rattle.match_laws.specs.Names.{viewed, names_of};
@@ -12,9 +13,19 @@ ghost use Rattle.block_pairs.specs.Held.{names_in};
 ghost use Rattle.block_pairs.specs.PlainBuffer.{plain_buffer};
 
 use crate::buffer::Buffer;
-use exo_tree::{Block, Coords, Id, ParamKind, Params, Proc, Stmt};
+use exo_tree::{Block, Coords, Id, Param, ParamKind, Params, Proc, Stmt};
 use indexmap::IndexMap;
 use std::alloc::{AllocError, Global};
+
+/// Whether a name is that of a parameter.
+pub fn is_param(params: &[Param], x: Id) -> bool
+    ensures { result ≡ is_buffer_of x.0 (map parameter params.now) }
+{
+    match params.split_first() {
+        None => false,
+        Some((p, rest)) => x.0 == p.binder.id.0 || is_param(rest, x),
+    }
+}
 
 /// For each name of a procedure that stands for a buffer or view, what is known of it.
 #[derive(Drop)]

@@ -1,10 +1,9 @@
 -- What is told of a match, and of what is refused besides.
 use Rattle.std.proofs.Common.{◌≡◌, ℕ, Bool, true, false, List, Option, Some, None, ap, sym}
 use Rattle.std.proofs.Common.{◌∙◌, subst}
-use Rattle.std.specs.Prelude.{if◌then◌else◌, not, option_map, slice_get, Result}
+use Rattle.std.specs.Prelude.{if◌then◌else◌, option_map, slice_get, Result}
 use Rattle.exo_tree.specs.Tree.{Argument, Procedure}
 use Rattle.exo_tree.specs.Places.{Path, Opened}
-use Rattle.meaning_laws.specs.Scoped.{is_param}
 use Rattle.affine_forms.specs.Outcomes.{IsWide}
 use Rattle.affine_forms.specs.declared.error.FormError.{FormError}
 use Rattle.affine_forms.specs.declared.error.FormError.TheVariants as form
@@ -19,7 +18,7 @@ use Rattle.cursor_forward.specs.declared.proposal.StepError.{StepError}
 use Rattle.step_needs.specs.Outcomes.{RefusedBy, Tries}
 use Rattle.step_rules.specs.Rule.{Tried, Got, Not, Target}
 use Rattle.unify_laws.specs.Simplify.{reading_of, rooted}
-use Rattle.unify_laws.specs.Replace.Rule.{hands_wholes, wholes_are_short, given_in, may_share}
+use Rattle.unify_laws.specs.Replace.Rule.{hands_wholes, given_in, may_share}
 use Rattle.unify_laws.specs.Replace.Rule.{param_name, told, told_there, said}
 
 pub without_extents : (p : Procedure) → has_extents p ≡ false → rooted p ≡ no_roots
@@ -71,49 +70,29 @@ module _ (t : Target) (o : Opened) (k : ℕ) (q : Procedure) where
   -- ---- by the arguments
 
   module _ (args : List Argument) where
-    abbrev asked : Bool
-    asked =
-        wholes_are_short (reading_of t) (is_param q) (given_in q.params args) q.body o.piece
-
     abbrev handed : Bool
-    handed = hands_wholes (reading_of t) (is_param q) (given_in q.params args) q.body o.piece
+    handed = hands_wholes (given_in q.params args) q.body o.piece
 
-    abbrev by : Bool → Bool → Bool → Tried (List Argument)
-    by fits hands shares =
-        if not fits then Not (Form WideNumber)
-        else (if hands then Not WrongShape
-        else (if shares then Got args else Not SharedArgument))
+    abbrev by : Bool → Bool → Tried (List Argument)
+    by hands shares =
+        if hands then Not WrongShape
+        else (if shares then Got args else Not SharedArgument)
 
     abbrev answer : Tried (List Argument)
     answer = told t o k q (Said (Arguments args))
 
-    pub wide_wholes : (e : FormError) → IsWide e asked
-        → RefusedBy answer (option_map Form (fault_of e))
-    wide_wholes form.TooManyCases h = absurd h
-    wide_wholes form.SystemTooLarge h = absurd h
-    wide_wholes form.WideNumber h = ap (λ b. by b handed (may_share t o k q args)) h
-    wide_wholes form.TooManySystems h = absurd h
-    wide_wholes form.Memory h = tt
+    pub hands_some : handed ≡ true → answer ≡ Not WrongShape
+    hands_some h = ap (λ b. by b (may_share t o k q args)) h
 
-    pub hands_some : asked ≡ true → handed ≡ true → answer ≡ Not WrongShape
-    hands_some h l =
-        ap (λ b. by b handed (may_share t o k q args)) h
-        ∙ ap (λ b. by true b (may_share t o k q args)) l
+    by_shares : handed ≡ false → (b : Bool) → may_share t o k q args ≡ b → answer ≡ by false b
+    by_shares h b is = ap (λ c. by c (may_share t o k q args)) h ∙ ap (by false) is
 
-    by_shares : asked ≡ true → handed ≡ false → (b : Bool) → may_share t o k q args ≡ b
-        → answer ≡ by true false b
-    by_shares h l b is =
-        ap (λ b. by b handed (may_share t o k q args)) h
-        ∙ ap (λ b. by true b (may_share t o k q args)) l
-        ∙ ap (by true false) is
-
-    pub shares_some : asked ≡ true → handed ≡ false → may_share t o k q args ≡ false
+    pub shares_some : handed ≡ false → may_share t o k q args ≡ false
         → answer ≡ Not SharedArgument
-    shares_some h l m = by_shares h l false m
+    shares_some h m = by_shares h false m
 
-    pub gives_all : asked ≡ true → handed ≡ false → may_share t o k q args ≡ true
-        → answer ≡ Got args
-    gives_all h l m = by_shares h l true m
+    pub gives_all : handed ≡ false → may_share t o k q args ≡ true → answer ≡ Got args
+    gives_all h m = by_shares h true m
 
 -- ---- by the number of the callee
 

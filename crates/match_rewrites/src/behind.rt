@@ -2,28 +2,12 @@
 ghost use Rattle.std.specs.Prelude.{◌≡◌, option_map, IfOk};
 ghost use Rattle.exo_tree.specs.Places.{opened};
 ghost use Rattle.exo_tree.specs.PlainProcedure.{procedure};
-ghost use Rattle.block_pairs.specs.Held.{ids_in};
 ghost use Rattle.unify_laws.specs.Replace.Rule.{is_used_after};
 
 use block_pairs::IdSet;
-use exo_tree::Id;
 use std::alloc::{AllocError, Global};
 use step_driver::{Piece, Target};
-use tree_mentions::{Names, is_mentioned_after};
-
-/// The names of a set.
-#[derive(Clone, Copy)]
-struct Bound<'a> {
-    ids: &'a IdSet,
-}
-
-impl Names for Bound<'_> {
-    ghost names = { λ b. ids_in b.ids.now };
-
-    fn has(&self, x: Id) -> bool {
-        self.ids.has(x)
-    }
-}
+use tree_mentions::is_mentioned_after;
 
 /// Whether what a piece binds is used behind it; None exactly where the piece is not there.
 pub(crate) fn is_used_after(
@@ -36,7 +20,6 @@ pub(crate) fn is_used_after(
         (opened piece.now.count piece.now.path (procedure on.now.proc.now).body)) }
 {
     let block = on.statements(alloc, piece)?;
-    let ids = IdSet::of_binders(alloc, &block)?;
-    let bound = Bound { ids: &ids };
+    let bound = IdSet::of_binders(alloc, &block)?;
     Ok(is_mentioned_after(&bound, &on.proc.body, &piece.path, piece.count))
 }

@@ -3,7 +3,6 @@ ghost use Rattle.std.specs.Prelude.{◌≡◌, map, IfOk};
 ghost use Rattle.exo_tree.specs.PlainParam.{parameter};
 ghost use Rattle.exo_tree.specs.PlainProcedure.{procedure};
 ghost use Rattle.affine_places.specs.Seen.{roots_in};
-ghost use Rattle.meaning_laws.specs.Scoped.{is_param};
 ghost use Rattle.match_laws.specs.Names.{names_of};
 ghost use Rattle.match_laws.specs.Matched as plain;
 ghost use Rattle.match_laws.specs.Matched.{Arguments};
@@ -73,35 +72,20 @@ impl Matching<'_> {
         match_with(alloc, reader, &theirs, &block, self.callee)
     }
 
-    /// Whether the callee's body hands on parameters whole where the piece has other coordinates
-    /// than their arguments, or as windows where it has a whole.
-    fn hands_wholes<R: Reader>(
-        &self,
-        alloc: Global,
-        reader: &R,
-        args: &Args,
-    ) -> Result<bool, FormError>
-        requires { R.reading reader.now ≡ reading_of (target self.now.on.now) }
-        ensures value { IfOk result (λ r. r
-            ≡ rule.hands_wholes (reading_of (target self.now.on.now))
-            (is_param (procedure self.now.callee.now))
-            (rule.given_in (procedure self.now.callee.now).params args.now)
-            (procedure self.now.callee.now).body
-            (spot_at (target self.now.on.now) (plain_piece self.now.piece.now)).opened.piece) }
-        ensures fits { ComesIf result
-            (rule.wholes_are_short (reading_of (target self.now.on.now))
-            (is_param (procedure self.now.callee.now))
-            (rule.given_in (procedure self.now.callee.now).params args.now)
+    /// Whether the callee's body hands on a parameter whole where the piece hands on a window,
+    /// while its argument is the whole of a name.
+    fn hands_wholes(&self, alloc: Global, args: &Args) -> Result<bool, AllocError>
+        ensures { IfOk result (λ r. r
+            ≡ rule.hands_wholes (rule.given_in (procedure self.now.callee.now).params args.now)
             (procedure self.now.callee.now).body
             (spot_at (target self.now.on.now) (plain_piece self.now.piece.now)).opened.piece) }
     {
         let block = self.on.statements(alloc, self.piece)?;
         let handing = Handing {
-            reader,
-            callee: self.callee,
+            params: &self.callee.params,
             args,
         };
-        handing.hands_wholes(alloc, &self.callee.body, &block)
+        Ok(handing.hands_wholes(&self.callee.body, &block))
     }
 
     /// Whether a call with these arguments gives the callee parts of one buffer only as the rule of
@@ -120,16 +104,15 @@ impl Matching<'_> {
     }
 
     /// The arguments of a match, where nothing else stands in the way.
-    #[tactic(auto, using(crate::proofs::Told::wide_wholes, crate::proofs::Told::hands_some, crate::proofs::Told::shares_some, crate::proofs::Told::gives_all))]
-    fn passed<R: Reader>(&self, alloc: Global, reader: &R, args: Args) -> Result<Args, StepError>
-        requires { R.reading reader.now ≡ reading_of (target self.now.on.now) }
+    #[tactic(auto, using(crate::proofs::Told::hands_some, crate::proofs::Told::shares_some, crate::proofs::Told::gives_all))]
+    fn passed(&self, alloc: Global, args: Args) -> Result<Args, StepError>
         ensures { Tries (λ as'. as')
             (rule.told (target self.now.on.now)
             (spot_at (target self.now.on.now) (plain_piece self.now.piece.now)).opened
             self.now.number.0 (procedure self.now.callee.now) (Said (Arguments args)))
             result }
     {
-        if self.hands_wholes(alloc, reader, &args)? {
+        if self.hands_wholes(alloc, &args)? {
             return Err(StepError::WrongShape);
         }
         if !self.may_share(alloc, &args)? {
@@ -149,7 +132,7 @@ impl Matching<'_> {
             result }
     {
         match self.matched(alloc, reader)? {
-            Matched::Arguments(args) => self.passed(alloc, reader, args),
+            Matched::Arguments(args) => self.passed(alloc, args),
             Matched::NoMatch(path) => Err(StepError::NoMatch(path)),
             Matched::Undetermined(x) => {
                 let name = param_name(alloc, self.callee.params.as_slice(), x)?;
@@ -189,10 +172,10 @@ impl Matching<'_> {
 }
 
 /// The arguments of a call of a procedure of the unit in the place of a piece. `WrongShape` where
-/// the unit has no such procedure, or its body hands on a parameter whole where the piece has other
-/// coordinates than the argument, or as a window where it has a whole; `NoMatch` and `Undetermined`
-/// as the match says; `SharedArgument` where the rule of calls refuses the arguments;
-/// `Form(WideNumber)` where a number of a form passes 2^62 in size.
+/// the unit has no such procedure, or its body hands on a parameter whole where the piece hands on
+/// a window, while its argument is the whole of a name; `NoMatch` and `Undetermined` as the match
+/// says; `SharedArgument` where the rule of calls refuses the arguments; `Form(WideNumber)` where a
+/// number of a form passes 2^62 in size.
 #[tactic(auto, using(crate::proofs::Told::no_callee, crate::proofs::Told::callee_there))]
 pub(crate) fn said(
     alloc: Global,

@@ -18,11 +18,11 @@ use step_targets::{OnPiece, Plain};
 
 /// The arguments that a call of a procedure of the unit has in the place of so many statements from
 /// a path on. `WrongShape` where they are not there, what they bind is used behind them, the unit
-/// has no such procedure, or its body hands on a parameter whole where the statements have other
-/// coordinates than the argument, or as a window where they have a whole; `NoMatch` where they
-/// differ from the body; `Undetermined` where no place of the body determines a parameter;
-/// `SharedArgument` where the rule of calls refuses the arguments; `Form(WideNumber)` where a
-/// number of a form passes 2^62 in size.
+/// has no such procedure, or its body hands on a parameter whole where the statements hand on a
+/// window, while its argument is the whole of a name; `NoMatch` where they differ from the body;
+/// `Undetermined` where no place of the body determines a parameter; `SharedArgument` where the
+/// rule of calls refuses the arguments; `Form(WideNumber)` where a number of a form passes 2^62 in
+/// size.
 #[tactic(auto, using(crate::proofs::Unified::nothing_there, crate::proofs::Unified::used_behind, crate::proofs::Unified::unused))]
 pub fn unify(
     alloc: Global,

@@ -13,17 +13,15 @@ use Rattle.block_matches.proofs.walked.walked.Goals as goal
 pub returns : goal.returns
 returns c =
     let pairs = map plain_pair c.args.pairs.items in
-    let own = ids_in c.in_ok-params.params in
+    let params = is_param (procedure c.args.callee.now) in
+    let bound = ids_in c.args.bound.now in
+    let to = partners_in c.args.to.now in
     let seen = ids_in c.new.result in
-    let counted : c.in_ok-end.end
-    ≡ kept own (ids_in c.args.bound.now) (partners_in c.args.to.now) seen pairs =
+    let counted : c.in_ok-end.end ≡ kept params bound to seen pairs =
     c.in_ok-end.ensures
-    ∙ ap (λ xs. kept own (ids_in c.args.bound.now) (partners_in c.args.to.now) seen
-    (map plain_pair xs)) c.deref.ensures.value in
+    ∙ ap (λ xs. kept params bound to seen (map plain_pair xs)) c.deref.ensures.value in
     if_ok c.cut_at.result (λ v. map plain_pair v.items ≡ cut_at c.in_ok-end.end pairs)
-    (λ v. map plain_pair v.items ≡ walked (is_param (procedure c.args.callee.now))
-    (ids_in c.args.bound.now) (partners_in c.args.to.now) (λ x. false) pairs)
-    (λ v h. cut_all (is_param (procedure c.args.callee.now)) (ids_in c.args.bound.now) own
-    (partners_in c.args.to.now) seen pairs (map plain_pair v.items) c.in_ok-end.end h counted
-    c.new.ensures c.in_ok-params.ensures)
+    (λ v. map plain_pair v.items ≡ walked params bound to (λ x. false) pairs)
+    (λ v h. cut_all params bound to seen pairs (map plain_pair v.items) c.in_ok-end.end h counted
+    c.new.ensures)
     c.cut_at.ensures

@@ -12,4 +12,4 @@ returns c =
     let p = c.args.piece.now in
     c.is_mentioned_after.ensures
     ∙ used_same (opened p.count p.path (procedure c.args.on.now.proc.now).body)
-    (ids_in c.in_ok-ids.ids) (c.in_ok-ids.ensures ∙ ap has_binder c.in_ok-block.ensures)
+    (ids_in c.in_ok-bound.bound) (c.in_ok-bound.ensures ∙ ap has_binder c.in_ok-block.ensures)

@@ -1,4 +1,6 @@
 use Rattle.std.proofs.Common.{◌<◌, length, map, sym, ◌∙◌, arith}
+use Rattle.exo_tree.specs.PlainProcedure.{procedure}
+use Rattle.inplace_laws.specs.Inline.{is_param}
 use Rattle.block_pairs.specs.Held.{ids_in}
 use Rattle.block_pairs.specs.PlainPair.{plain_pair}
 use Rattle.block_matches.specs.Held.{partners_in}
@@ -8,7 +10,7 @@ use Rattle.block_matches.proofs.walked.Walker.kept.Goals as goal
 
 pub loop-k-preserved : goal.loop-k-preserved
 loop-k-preserved c =
-    let params = ids_in c.args.self.now.params.now in
+    let params = is_param (procedure c.args.self.now.callee.now) in
     let bound = ids_in c.args.self.now.bound.now in
     let to = partners_in c.args.self.now.to.now in
     let within : c.loop-k.k < length c.args.pairs.now = omega arith in

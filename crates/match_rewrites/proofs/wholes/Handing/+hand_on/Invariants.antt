@@ -2,4 +2,4 @@ use Rattle.std.proofs.Common.{length}
 use Rattle.match_rewrites.proofs.wholes.Handing.+hand_on.Given as goal
 
 abbrev pub decreases-hand_on : goal.decreases-hand_on
-decreases-hand_on g l = length l.ours.now
+decreases-hand_on l = length l.ours.now
