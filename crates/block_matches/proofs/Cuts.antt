@@ -1,11 +1,12 @@
 -- The walk is cut where it ends.
-use Rattle.std.proofs.Common.{◌≡◌, ℕ, zero, suc, ◌+◌, ◌<◌, length, get_or, drop, arith, drop-cons, Bool, true, false, cond, map, List, [], ◌∷◌, ◌++◌, take, Option, Some, None, refl, ap, sym, ◌∙◌}
+use Rattle.std.proofs.Common.{◌≡◌, ℕ, zero, suc, ◌+◌, ◌<◌, length, get_or, drop, arith, Bool, true, false, cond, map, List, [], ◌∷◌, ◌++◌, take, Option, Some, None, refl, ap, sym, ◌∙◌}
 use Rattle.std.specs.Prelude.{slice_get, option_map}
 use Rattle.std.proofs.lemmas.List.{take-map, map-append}
 use Rattle.std.proofs.lemmas.Option.{slice_get-map}
 use Rattle.match_laws.specs.Pairs.{Pair, Unlike}
 use Rattle.match_laws.specs.Matched.{known_by, seen_with, ends_at, path_of, walked}
 use Rattle.block_matches.specs.Kept.{kept, cut_at}
+use Rattle.block_matches.proofs.Tables.{next_item}
 
 -- behind a pair
 cut_more : (n : ℕ) (a : Pair) (pairs : List Pair)
@@ -73,10 +74,7 @@ pub kept_step : {A : Type 0} (f : A → Pair) (params bound : ℕ → Bool) (to 
     → (k + 1) + kept params bound to next (map f (drop (k + 1) xs)) ≡ total
 kept_step f params bound to seen next xs k total a h item ends same inv =
     let rest = map f (drop (k + 1) xs) in
-    let next_k : suc k ≡ k + 1 = omega arith in
-    let parts : drop k xs ≡ a ∷ drop (k + 1) xs =
-    drop-cons xs k a h
-    ∙ (ap (λ x. x ∷ drop (suc k) xs) (sym item) ∙ ap (λ m. a ∷ drop m xs) next_k) in
+    let parts = next_item xs k a h item in
     let more : kept params bound to seen (map f (drop k xs)) ≡ suc (kept params bound to next rest) =
     ap (λ l. kept params bound to seen (map f l)) parts
     ∙ (ap (λ t. cond t zero (suc (kept params bound to (seen_with (known_by params (f a)) seen) rest))) ends

@@ -1,6 +1,7 @@
 -- What tables say once all is noted.
 use Rattle.std.proofs.Common.{◌≡◌, ℕ, ◌==◌, not, Bool, true, false, cond, List, [], ◌∷◌, Option}
-use Rattle.std.proofs.Common.{Some, None, refl, ap, sym, ◌∙◌, eqb, arith}
+use Rattle.std.proofs.Common.{Some, None, refl, ap, sym, ◌∙◌, eqb, arith, suc, ◌+◌, ◌<◌, length, drop}
+use Rattle.std.proofs.Common.{drop-cons, get_or}
 use Rattle.std.proofs.lemmas.Bool.{eqb-true}
 use Rattle.std.proofs.lemmas.Bool.Decides.{nat_tests}
 use Rattle.std.specs.Prelude.{is_some, if◌then◌else◌}
@@ -12,6 +13,15 @@ use Rattle.match_laws.specs.Names.{Names}
 use Rattle.match_laws.specs.Pairs.{Pair}
 use Rattle.match_laws.specs.Matched.{argument_in, given_to, is_undetermined, first_undetermined}
 use Rattle.block_matches.specs.Noted.{earlier, entry, given_by, is_open}
+
+-- an item, and those behind it
+pub next_item : {A : Type 0} (xs : List A) (k : ℕ) (a : A) → k < length xs → a ≡ get_or xs k a
+    → drop k xs ≡ a ∷ drop (k + 1) xs
+next_item xs k a h item =
+    let next_k : suc k ≡ k + 1 = omega arith in
+    drop-cons xs k a h
+    ∙ ap (λ x. x ∷ drop (suc k) xs) (sym item)
+    ∙ ap (λ m. a ∷ drop m xs) next_k
 
 -- ---- the first stays
 

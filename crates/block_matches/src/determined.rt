@@ -29,7 +29,6 @@ pub(crate) struct Determined<'a> {
 
 impl<'a> Determined<'a> {
     /// What the first place of each control parameter determines.
-    #[tactic(auto, using(crate::proofs::Tables::all_noted, crate::proofs::Tables::one_noted))]
     pub(crate) fn of_pairs(
         alloc: Global,
         callee: &Proc,
@@ -99,7 +98,7 @@ impl<'a> Determined<'a> {
         }
     }
 
-    #[tactic(auto, using(crate::proofs::Tables::nothing_more, crate::proofs::Tables::joined))]
+    #[tactic(auto, using(crate::proofs::Tables::nothing_more))]
     fn note_arguments(&mut self, params: &[Param], args: &'a [Arg]) -> Result<(), AllocError>
         ensures { OnOk result (determined_in self.new ≡ earlier (determined_in self.old)
             (given_by (map parameter params.now) (map argument args.now))) }
@@ -134,7 +133,6 @@ fn is_open(
 }
 
 /// The first parameter that no place of the callee's body determines.
-#[tactic(auto, using(crate::proofs::Tables::is_first, crate::proofs::Tables::is_later))]
 pub(crate) fn first_undetermined(
     alloc: Global,
     callee: &Proc,

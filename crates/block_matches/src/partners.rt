@@ -18,7 +18,6 @@ pub(crate) struct Partners {
 
 impl Partners {
     /// By the first pair of binders.
-    #[tactic(auto, using(crate::proofs::Tables::all_noted, crate::proofs::Tables::one_noted))]
     pub(crate) fn of(alloc: Global, pairs: &[Pair<'_>]) -> Result<Partners, AllocError>
         ensures { IfOk result (λ t. partners_in t ≡ partner (map plain_pair pairs.now)) }
     {
