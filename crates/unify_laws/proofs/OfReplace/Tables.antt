@@ -24,7 +24,8 @@ use Rattle.meaning_laws.proofs.Made.{made_law}
 use Rattle.meaning_laws.proofs.Parts.{then_gives, map_gives}
 use Rattle.check_laws.proofs.OfFacts.Binders.{IsApart, StepIsApart, apart_there, step_apart_there}
 use Rattle.check_laws.proofs.OfFacts.Binders.{binds_less, Among, split, not_bound, apart}
-use Rattle.check_laws.proofs.OfFacts.Standing.{Names as Within, has_sort, extents_stay}
+use Rattle.check_laws.proofs.OfFacts.Affine.{same_numbers, all_are_affine}
+use Rattle.check_laws.proofs.OfFacts.Standing.{Names as Within, has_sort, over_names, plain_allows}
 use Rattle.check_laws.proofs.OfFacts.Truths.{parts, neither, both_false, one_of, on_left, on_right, denied}
 use Rattle.check_laws.proofs.OfFacts.Truths.{contrary, self, none_some, some_injective}
 use Rattle.match_laws.specs.Names.{Buffer, Names, with_kind, with_params, viewed, span_extents}
@@ -368,6 +369,20 @@ module _ (table : Names) (u : Scene) where
 
   module _ (fields : ℕ → Option Kind) (memories : ℕ) (first : Scene) (bound : ℕ → Bool)
       (same : (y : ℕ) → bound y ≡ true → first.control y ≡ u.control y) where
+    -- dimensions have the same numbers there
+    dims_stay : (scope : Scope) (es : List Control) → Within bound scope
+        → are_controls fields plainly scope es ≡ true
+        → numbers first es ≡ numbers u es
+    dims_stay scope es names h =
+        same_numbers (over_names bound) first u
+        (record {
+          control = same;
+          fields = λ f k. absurd (true≢false (sym k));
+          strides = λ x j k. absurd (true≢false (sym k));
+        })
+        es (all_are_affine fields plainly scope (over_names bound)
+        (plain_allows fields bound scope names) es h)
+
     kind_has : (x : ℕ) (kind : ParamKind) (scope : Scope) → Within bound scope
         → is_param_kind fields memories scope kind ≡ true → KindAgrees table x kind
         → IsArgument first x kind → first.views x ≡ u.views x → Has x
@@ -376,11 +391,11 @@ module _ (table : Names) (u : Scene) where
     kind_has x (TensorParam cell dims memory) scope names keeps agrees argument views =
         let plain = (parts (are_controls fields plainly scope dims) _ keeps).0 in
         subst (NameHas u x) (sym agrees) (whole_has x x (numbers first dims) dims
-        (sym views ∙ argument.1) (sym (extents_stay fields bound scope first u dims names plain same)))
+        (sym views ∙ argument.1) (sym (dims_stay scope dims names plain)))
     kind_has x (WindowParam cell dims memory) scope names keeps agrees argument views =
         let plain = (parts (are_controls fields plainly scope dims) _ keeps).0 in
         subst (NameHas u x) (sym agrees) (whole_has x x (numbers first dims) dims
-        (sym views ∙ argument.1.1) (sym (extents_stay fields bound scope first u dims names plain same)))
+        (sym views ∙ argument.1.1) (sym (dims_stay scope dims names plain)))
 
     params_have : (ps : List Param) (scope : Scope) → Within bound scope
         → ((x : ℕ) → is_buffer_of x ps ≡ true → bound x ≡ true)
