@@ -7,7 +7,7 @@ use Rattle.exo_tree.specs.Tree.{Condition, True, False, Flag, FieldFlag, Lt, Le,
 use Rattle.exo_tree.specs.Tree.{Or, Argument, ControlArg, ConditionArg, Whole, Window}
 use Rattle.inplace_laws.specs.Windows.{nth_span, root_in, coords_of}
 use Rattle.match_laws.specs.Inline.AtOnce.{Put, put_control}
-use Rattle.match_laws.specs.Matched.{moving, number_in, truth_in, stride_in, variable_for}
+use Rattle.match_laws.specs.Matched.{moving, stride_in}
 use Rattle.match_laws.specs.Matched.{stride_for}
 use Rattle.match_laws.specs.Moved.{Moving, both, one, moved, moved_condition}
 use Rattle.tree_uses.specs.Putting.{putting}

@@ -1,5 +1,5 @@
 -- What tables say once all is noted.
-use Rattle.std.proofs.Common.{◌≡◌, ℕ, ◌==◌, not, Bool, true, false, cond, List, [], ◌∷◌, Option}
+use Rattle.std.proofs.Common.{◌≡◌, ℕ, not, Bool, true, false, cond, List, [], ◌∷◌, Option}
 use Rattle.std.proofs.Common.{Some, None, refl, ap, sym, ◌∙◌, eqb, arith, suc, ◌+◌, ◌<◌, length, drop}
 use Rattle.std.proofs.Common.{drop-cons, get_or}
 use Rattle.std.proofs.lemmas.Bool.{eqb-true}

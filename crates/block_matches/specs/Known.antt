@@ -4,7 +4,7 @@ use Rattle.exo_tree.specs.Tree.{Control, Lit, Var, Field, StrideOf, Neg, Add, Su
 use Rattle.exo_tree.specs.Tree.{Condition, True, False, Flag, FieldFlag, Lt, Le, Gt, Ge, Eq, And}
 use Rattle.exo_tree.specs.Tree.{Or, Argument, ControlArg, ConditionArg, Whole, Window}
 use Rattle.match_laws.specs.Inline.AtOnce.{Put}
-use Rattle.match_laws.specs.Matched.{moving, number_in, truth_in, variable_for}
+use Rattle.match_laws.specs.Matched.{number_in, truth_in, variable_for}
 use Rattle.match_laws.specs.Moved.{Moving}
 
 -- where the stride of one dimension is known, that of another is
