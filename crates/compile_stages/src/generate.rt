@@ -1,7 +1,8 @@
 // The texts of a number, and what they come to.
-ghost use Rattle.std.specs.Prelude.{◌≡◌, IfSome, string_bytes};
+ghost use Rattle.std.specs.Prelude.{◌≡◌, ◌≤◌, IfSome, length, string_bytes};
 ghost use Rattle.schedule_run.specs.PlainVersions.{versions};
-ghost use Rattle.compile_stages.specs.Stages.{Generates, line_count, summed};
+ghost use Rattle.compile_stages.specs.Stages.{Generates, Leads, Schedules, line_count, made};
+ghost use Rattle.compile_stages.specs.Stages.{printed, summed};
 ghost use Rattle.compile_stages.specs.Stopping.{stage};
 
 use crate::lowering::printed;
@@ -27,16 +28,32 @@ pub fn generated<R: Threads + Sync, G: Gate>(
 {
     let unit = unit_text(alloc, n)?;
     let schedule = schedule_text(alloc, n)?;
-    let session = scheduled(rt, alloc, unit.as_bytes(), schedule.as_bytes(), gate)?;
+    summed_texts(rt, alloc, n, unit.as_bytes(), schedule.as_bytes(), gate)
+}
+
+/// The summary of the versions that a schedule makes of a unit, as those of the number.
+fn summed_texts<R: Threads + Sync, G: Gate>(
+    rt: &R,
+    alloc: Global,
+    n: u32,
+    unit: &[u8],
+    schedule: &[u8],
+    gate: &G,
+) -> Result<String, Stop>
+    requires unit { length unit.now ≤ 1048576 }
+    requires schedule { length schedule.now ≤ 1048576 }
+    ensures { IfSome (stage string_bytes result)
+        (Leads (Schedules unit.now schedule.now) (λ v end. end ≡ summed n v)) }
+{
+    let session = scheduled(rt, alloc, unit, schedule, gate)?;
     summed(alloc, n, &session)
 }
 
-/// The summary of the versions that the texts of the number make.
+/// The summary of versions, as those of the number.
 fn summed(alloc: Global, n: u32, session: &Session) -> Result<String, Stop>
     ensures { IfSome (stage string_bytes result) (λ s. s ≡ summed n (versions session.now)) }
 {
-    let what = printings(alloc, session)?;
-    let text = printed(alloc, &session.unit, &what)?;
+    let text = session_text(alloc, session)?;
     let lines = line_count(&text);
     Ok(messages::summary(
         alloc,
@@ -45,6 +62,14 @@ fn summed(alloc: Global, n: u32, session: &Session) -> Result<String, Stop>
         session.obligations,
         lines,
     )?)
+}
+
+/// The text of the C of what is emitted.
+fn session_text(alloc: Global, session: &Session) -> Result<String, Stop>
+    ensures { IfSome (stage string_bytes result) (λ s. s ≡ printed (made (versions session.now))) }
+{
+    let what = printings(alloc, session)?;
+    printed(alloc, &session.unit, &what)
 }
 
 /// How many lines the text has, each of which ends with a line feed.

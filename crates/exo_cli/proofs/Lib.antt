@@ -2,3 +2,4 @@ pub mod Endings
 pub mod Unique
 pub mod Complete
 pub mod Headline
+pub mod Replying

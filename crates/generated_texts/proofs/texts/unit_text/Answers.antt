@@ -1,4 +1,4 @@
-use Rattle.std.proofs.Common.{◌≤◌, length, string_bytes, arith}
+use Rattle.std.proofs.Common.{string_bytes, arith}
 use Rattle.generated_texts.proofs.Sizes.{short_unit}
 use Rattle.generated_texts.proofs.texts.unit_text.Goals as goal
 
