@@ -64,10 +64,15 @@ RestCached all first es lines v now =
     → (lists : List (List Owed)) × LinesOwe all first lists
     × (discharged_all es lists ≡ discharged_all now rest)
 
-pub first_cached : (all : List tree.Line) (first v : Versions) (es now : Entries) → v ≡ first → now ≡ es
-    → RestCached all first es all v now
-first_cached all first v es now same held rest h =
-    (rest, subst (λ w. LinesOwe all w rest) same h, ap (λ e. discharged_all e rest) (sym held))
+pub none_dropped : {A : Type 0} (xs : List A) → drop 0 xs ≡ xs
+none_dropped [] = refl
+none_dropped (x ∷ xs) = refl
+
+pub first_cached : (all : List tree.Line) (first v : Versions) (es : Entries) → v ≡ first
+    → RestCached all first es (drop 0 all) v es
+first_cached all first v es same rest h =
+    let own = subst (λ l. LinesOwe l v rest) (none_dropped all) h in
+    (rest, subst (λ w. LinesOwe all w rest) same own, refl)
 
 pub line_behind : (all : List tree.Line) (first : Versions) (es : Entries) (k : ℕ) (lines : List tree.Line)
     (line : tree.Line) (v w : Versions) (now new : Entries) → drop k lines ≡ line ∷ drop (k + 1) lines

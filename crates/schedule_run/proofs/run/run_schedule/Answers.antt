@@ -7,7 +7,7 @@ use Rattle.schedule_laws.specs.Versions.Lines.{Done}
 use Rattle.schedule_run.specs.Runs.{LinesRun, ends}
 use Rattle.schedule_run.specs.Running.{versions_in}
 use Rattle.schedule_run.proofs.Going.{dropped, past_all, goes_on, refused_runs}
-use Rattle.schedule_run.proofs.Caching.{line_behind, lines_cached}
+use Rattle.schedule_run.proofs.Caching.{none_dropped, first_cached, line_behind, lines_cached}
 use Rattle.schedule_run.proofs.run.run_schedule.Goals as goal
 
 pub returns-in-Err-run_line-clause-exact : goal.returns-in-Err-run_line-clause-exact
@@ -21,6 +21,19 @@ returns-in-Err-run_line-clause-exact g c =
     (versions_in c.loop-index.running) lines c.in-Err-run_line.why
     (dropped plain_line items k line c.index-lines-index.is less)
     c.loop-index.invariant.rest c.in-Err-run_line.ensures.runs
+
+pub loop-index-init : goal.loop-index-init
+loop-index-init g c =
+    let lines = map plain_line c.args.lines.now in
+    let first = started (program c.args.unit) c.args.shown in
+    let is = c.in-Ok.ensures.versions in
+    record {
+      running = c.in-Ok.ensures.running;
+      rest = λ end h.
+          subst (λ v. LinesRun 0 lines v end) is
+          (subst (λ l. LinesRun 0 l (versions_in c.in-Ok.running) end) (none_dropped lines) h);
+      cached = first_cached lines first (versions_in c.in-Ok.running) _ is;
+    }
 
 pub loop-index-preserved : goal.loop-index-preserved
 loop-index-preserved g c =

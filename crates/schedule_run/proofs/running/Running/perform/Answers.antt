@@ -34,3 +34,15 @@ returns-in-Search-clause-cache g c =
     subst (λ (r : Request). OnOk c.search_owned.result (held c.args.cache.now
     ≡ discharged_all (held c.args.cache.now) (lists_of (versions_in c.args.self.now) (act_of (plain_request r)))))
     (sym c.in-Search.is) (only_ok c.search_owned.result refl)
+
+pub returns-in-Moved-clause-cache : goal.returns-in-Moved-clause-cache
+returns-in-Moved-clause-cache g c =
+    subst (λ (r : Request). OnOk c.follow.result (held c.args.cache.now
+    ≡ discharged_all (held c.args.cache.now) (lists_of (versions_in c.args.self.now) (act_of (plain_request r)))))
+    (sym c.in-Moved.is) (only_ok c.follow.result refl)
+
+pub returns-in-Emit-clause-cache : goal.returns-in-Emit-clause-cache
+returns-in-Emit-clause-cache g c =
+    subst (λ (r : Request). OnOk c.emit.result (held c.args.cache.now
+    ≡ discharged_all (held c.args.cache.now) (lists_of (versions_in c.args.self.now) (act_of (plain_request r)))))
+    (sym c.in-Emit.is) (only_ok c.emit.result refl)
