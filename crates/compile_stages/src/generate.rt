@@ -76,8 +76,9 @@ fn session_text(alloc: Global, session: &Session) -> Result<String, Stop>
 fn line_count(text: &str) -> usize
     ensures { result ≡ line_count text.now }
 {
+    let bytes = text.as_bytes();
     let mut count = 0usize;
-    for byte in text.as_bytes() {
+    for byte in bytes {
         if *byte == b'\n' {
             count += 1;
         }
