@@ -9,7 +9,8 @@ pub fn own_names_stay()
     tree_laws::findings::laws::procedures_keep_rules();
 }
 
-/// A procedure of a unit under another name, behind the others, owes what it owes there, and is refused as there.
+/// A procedure of a unit under another name, behind the others, owes what it owes there, and is
+/// refused as there.
 pub fn renamed_versions_owe_the_same()
     ensures { RenamedOwesTheSame }
 {
