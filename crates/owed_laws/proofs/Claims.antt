@@ -1,5 +1,5 @@
 -- The claims of a procedure that calls the first procedures alone, whatever comes behind them.
-use Rattle.std.proofs.Common.{◌≡◌, ◌||◌, ◌&&◌, ◌++◌, ℕ, suc, pos, Bool, true, List, [], ◌∷◌, map, length}
+use Rattle.std.proofs.Common.{◌≡◌, ◌||◌, ◌++◌, ℕ, suc, pos, Bool, true, List, [], ◌∷◌, map, length}
 use Rattle.std.proofs.Common.{Option, None, Some, refl, ◌∙◌}
 use Rattle.std.specs.Prelude.{flat_map, nat_lt, slice_get}
 use Rattle.std.proofs.lemmas.Bool.{and_parts}
@@ -16,12 +16,11 @@ use Rattle.meaning_laws.specs.Grown.{calls_below, step_calls_below}
 use Rattle.affine_places.specs.Roots.{Roots, roots_of}
 use Rattle.text_show.specs.Layout.{Text}
 use Rattle.text_show.specs.Words.{Words, callee_name, words_of}
-use Rattle.text_show.specs.ControlText.{condition_text}
 use Rattle.check_claims.specs.Pairs.{flat_zip}
 use Rattle.check_claims.specs.Claim.{Claim, Is}
 use Rattle.check_claims.specs.Extents.{Extents, dims_of, extents_of}
 use Rattle.check_claims.specs.Arguments.{control_under, condition_under}
-use Rattle.check_claims.specs.Claims.{asserted, pair_claims, written_by, as_shown, at_least_one, not_negative}
+use Rattle.check_claims.specs.Claims.{asserted, pair_claims, written_by, as_shown, at_least_one}
 use Rattle.check_claims.specs.Claims.{one_index, index_claims, coord_claims, window_claims, read_claims, store_claims}
 use Rattle.check_claims.specs.Claims.{argument_window, given_claims, argument_size, argument_extents, equal_extents}
 use Rattle.check_claims.specs.Claims.{passed_extents, call_claims, write_claims, own_claims, placed_at, into}

@@ -1,5 +1,5 @@
 -- What is known of fields at the places of a block that calls the first procedures alone.
-use Rattle.std.proofs.Common.{◌≡◌, ◌||◌, ◌&&◌, ℕ, zero, suc, Bool, true, List, ◌∷◌, refl, ap, ap₂, ◌∙◌}
+use Rattle.std.proofs.Common.{◌≡◌, ◌||◌, ◌&&◌, ℕ, zero, suc, Bool, true, ◌∷◌, refl, ap, ap₂, ◌∙◌}
 use Rattle.std.specs.Prelude.{nat_lt}
 use Rattle.std.proofs.lemmas.Bool.{and_parts}
 use Rattle.exo_tree.specs.Tree.{Condition, Var, Lt, Le, Statement, Assign, Reduce, Config, Pass, If, For, Alloc, View, Call}

@@ -1,5 +1,5 @@
 -- The binders of a procedure have ids below those of copies, and no two have the same.
-use Rattle.std.proofs.Common.{◌≡◌, ◌≤◌, ℕ, suc, max, true, not, ◌&&◌, List, [], ◌∷◌, ◌++◌, arith}
+use Rattle.std.proofs.Common.{◌≡◌, ◌≤◌, ℕ, true, not, List, [], ◌∷◌, ◌++◌, arith}
 use Rattle.std.specs.List.{list_any}
 use Rattle.std.specs.Prelude.{◌==◌}
 use Rattle.std.proofs.lemmas.Bool.{and_parts}

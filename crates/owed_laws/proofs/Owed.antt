@@ -14,7 +14,6 @@ use Rattle.meaning_laws.specs.Facts.{Fact, Holds, Fails}
 use Rattle.meaning_laws.specs.Grown.{calls_below}
 use Rattle.meaning_laws.specs.Known.{params_facts}
 use Rattle.meaning_laws.specs.KnownFields.{KnownFields, Telling, at_entry}
-use Rattle.meaning_laws.specs.PlaceFacts.{PlaceFact}
 use Rattle.meaning_laws.specs.Places.{OpenedLaw}
 use Rattle.meaning_laws.specs.UnitFields.{unit_writes}
 use Rattle.meaning_laws.specs.WellFormed.{CallsAreBelow}
@@ -22,7 +21,6 @@ use Rattle.affine_forms.specs.Formulas.{Formula}
 use Rattle.affine_systems.specs.Systems.{systems, stated}
 use Rattle.affine_systems.specs.Outcomes.{Owed, owed}
 use Rattle.text_show.specs.Layout.{Text}
-use Rattle.text_show.specs.StatementText.{argument_text}
 use Rattle.text_show.specs.Words.{callee_name, words_of}
 use Rattle.check_claims.specs.Claim.{Claim, Is, Apart, Placed}
 use Rattle.check_claims.specs.Claims.{claims_of}
@@ -32,10 +30,10 @@ use Rattle.exo_effects.specs.Accesses.{Access, access_of}
 use Rattle.exo_effects.specs.Conflicts.{clashing, past_these, conflicts_of}
 use Rattle.exo_effects.specs.Conflicts as conflict
 use Rattle.exo_effects.specs.Orders.{no_order}
-use Rattle.exo_effects.specs.Uses.{Use, uses_of, part_of_argument, at_hole, argument_at}
+use Rattle.exo_effects.specs.Uses.{Use, uses_of, part_of_argument, at_hole}
 use Rattle.bounds_check.specs.Limits.{are_within}
-use Rattle.bounds_check.specs.Obligations.{Fault, Wide, known_for, formula_at, condition_owed, argument_accesses}
-use Rattle.bounds_check.specs.Obligations.{pair_owed, claim_owed, owed_for, obligations_of, said_fits, claim_fits}
+use Rattle.bounds_check.specs.Obligations.{Wide, known_for, formula_at, argument_accesses}
+use Rattle.bounds_check.specs.Obligations.{claim_owed, owed_for, obligations_of, said_fits}
 use Rattle.bounds_check.specs.Obligations.{stated_fault, listing_fault, unless_refused, said_fault, claim_fault}
 use Rattle.bounds_check.specs.Obligations.{first_fault, list_fault}
 use Rattle.tree_laws.specs.Findings.Versions.{ProcedureLaw}
