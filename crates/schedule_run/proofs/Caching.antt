@@ -41,15 +41,6 @@ pub lists_are : (v : Versions) (name of : List ℕ) (call : Call) (k : ℕ) (m :
     → planned_of v call k ≡ Got m → lists_of v (Apply name of call) ≡ lists_for v m
 lists_are v name of call k m there plan = ap (lists_called v call) there ∙ ap (lists_made v) plan
 
--- a step on a version that is there discharges the lists of its plan
-pub step_cached : {A E : Type 0} (r : Result A E) (v : Versions) (name of : List ℕ) (call : Call) (k : ℕ) (m : Plan)
-    (before after : Entries) → version_of v of ≡ Some k → planned_of v call k ≡ Got m
-    → OnOk r (after ≡ discharged_all before (lists_for v m))
-    → OnOk r (after ≡ discharged_all before (lists_of v (Apply name of call)))
-step_cached (Ok x) v name of call k m before after there plan h =
-    h ∙ ap (discharged_all before) (sym (lists_are v name of call k m there plan))
-step_cached (Err e) v name of call k m before after there plan h = tt
-
 -- ---- a line
 
 pub asked_cached : {X : Type 0} (line : tree.Line) (r : Request) (v new : Versions) (result : Result X Why)

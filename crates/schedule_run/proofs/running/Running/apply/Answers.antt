@@ -1,5 +1,7 @@
 use Rattle.std.proofs.Common.{◌≡◌, sym, ap, ◌∙◌, subst}
+use Rattle.std.proofs.lemmas.Result.{on_ok_weaker}
 use Rattle.ob_check.specs.Held.{held}
+use Rattle.unit_check.specs.Cached.{discharged_all}
 use Rattle.cursor_forward.specs.PlainProposal.{plain_proposal}
 use Rattle.schedule_calls.specs.PlainRequest.{plain_operation}
 use Rattle.schedule_laws.specs.Versions.Versions.{version_of}
@@ -8,7 +10,7 @@ use Rattle.schedule_laws.specs.Operators.Operators.{call_of}
 use Rattle.schedule_run.specs.Outcomes.{Performs}
 use Rattle.schedule_run.specs.Planned.{Not, planned_of, stepped}
 use Rattle.schedule_run.specs.Running.{versions_in}
-use Rattle.schedule_run.proofs.Caching.{step_cached}
+use Rattle.schedule_run.proofs.Caching.{lists_are}
 use Rattle.schedule_run.proofs.Going.{performed_failed}
 use Rattle.schedule_run.proofs.Plans.{says}
 use Rattle.schedule_run.proofs.Stepping.{applied_is}
@@ -42,8 +44,11 @@ returns-clause-performs g c =
 
 pub returns-clause-cache : goal.returns-clause-cache
 returns-clause-cache g c =
-    step_cached c.add.result (versions_in c.args.self.now) c.args.bind.now c.args.of.now
-    (call_of (plain_operation c.args.operation.now)) c.in-Some.k.0 (plain_proposal c.in_ok-made.made)
-    (held c.args.cache.now) (held c.add.new.cache)
-    (ap (version_of (versions_in c.args.self.now)) (sym c.as_slice.ensures) ∙ sym c.in-Some.ensures)
-    c.in_ok-made.ensures.made c.add.ensures.cache
+    let v = versions_in c.args.self.now in
+    let call = call_of (plain_operation c.args.operation.now) in
+    let there = ap (version_of v) (sym c.as_slice.ensures) ∙ sym c.in-Some.ensures in
+    on_ok_weaker c.add.result
+    (λ is. is ∙ ap (discharged_all (held c.args.cache.now))
+    (sym (lists_are v c.args.bind.now c.args.of.now call c.in-Some.k.0 (plain_proposal c.in_ok-made.made) there
+    c.in_ok-made.ensures.made)))
+    c.add.ensures.cache
