@@ -1,5 +1,6 @@
-use Rattle.std.proofs.Common.{◌≡◌, sym, ap, ◌∙◌, subst}
-use Rattle.std.proofs.lemmas.Result.{on_ok_weaker}
+use Rattle.std.proofs.Common.{◌≡◌, List, Some, sym, ap, ◌∙◌, subst}
+use Rattle.std.specs.Prelude.{OnOk}
+use Rattle.affine_systems.specs.Outcomes.{Owed}
 use Rattle.ob_check.specs.Held.{held}
 use Rattle.unit_check.specs.Cached.{discharged_all}
 use Rattle.cursor_forward.specs.PlainProposal.{plain_proposal}
@@ -7,6 +8,7 @@ use Rattle.schedule_calls.specs.PlainRequest.{plain_operation}
 use Rattle.schedule_laws.specs.Versions.Versions.{version_of}
 use Rattle.schedule_laws.specs.Versions.Lines.{Progress, Apply, performed}
 use Rattle.schedule_laws.specs.Operators.Operators.{call_of}
+use Rattle.schedule_run.specs.Cached.{lists_for, lists_of}
 use Rattle.schedule_run.specs.Outcomes.{Performs}
 use Rattle.schedule_run.specs.Planned.{Not, planned_of, stepped}
 use Rattle.schedule_run.specs.Running.{versions_in}
@@ -45,10 +47,14 @@ returns-clause-performs g c =
 pub returns-clause-cache : goal.returns-clause-cache
 returns-clause-cache g c =
     let v = versions_in c.args.self.now in
+    let name = c.args.bind.now in
+    let of = c.args.of.now in
     let call = call_of (plain_operation c.args.operation.now) in
-    let there = ap (version_of v) (sym c.as_slice.ensures) ∙ sym c.in-Some.ensures in
-    on_ok_weaker c.add.result
-    (λ is. is ∙ ap (discharged_all (held c.args.cache.now))
-    (sym (lists_are v c.args.bind.now c.args.of.now call c.in-Some.k.0 (plain_proposal c.in_ok-made.made) there
-    c.in_ok-made.ensures.made)))
-    c.add.ensures.cache
+    let k = c.in-Some.k.0 in
+    let m = plain_proposal c.in_ok-made.made in
+    let there : version_of v of ≡ Some k =
+    ap (version_of v) (sym c.as_slice.ensures) ∙ sym c.in-Some.ensures in
+    let are : lists_of v (Apply name of call) ≡ lists_for v m =
+    lists_are v name of call k m there c.in_ok-made.ensures.made in
+    subst (λ (ls : List (List Owed)). OnOk c.add.result (held c.add.new.cache ≡ discharged_all (held c.args.cache.now) ls))
+    (sym are) c.add.ensures.cache
