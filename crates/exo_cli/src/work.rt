@@ -67,7 +67,6 @@ pub fn exoc<R: Threads + Sync, F: Files, O: Sink, E: Sink, G: Gate>(
 }
 
 /// What is replied to the words.
-#[tactic(auto, using(crate::proofs::Replying::generated_reply))]
 fn reply_to<R: Threads + Sync, F: Files, G: Gate>(
     rt: &R,
     alloc: Global,
