@@ -16,3 +16,4 @@ pub mod Going
 pub mod Lists
 pub mod FirstNamed
 pub mod Caching
+pub mod Renaming

@@ -1,18 +1,19 @@
 //! Versions while lines run.
 ghost use Rattle.std.specs.Prelude.{◌≡◌, ◌+◌, ◌^◌, true, nat_le, [], ◌∷◌, map, length, Some};
-ghost use Rattle.std.specs.Prelude.{slice_get, IfOk, OnOk};
-ghost use Rattle.exo_tree.specs.Tree.{Procedure};
+ghost use Rattle.std.specs.Prelude.{slice_get, IfOk, OnOk, IfSome};
+ghost use Rattle.exo_tree.specs.Tree.{Procedure, Program};
 ghost use Rattle.exo_tree.specs.PlainProcedure.{procedure};
 ghost use Rattle.exo_tree.specs.PlainUnit.{program};
 ghost use Rattle.exo_meaning.specs.Units.{IsUnit};
 ghost use Rattle.affine_systems.specs.Outcomes.{plain_obligation};
-ghost use Rattle.bounds_check.specs.Obligations.{obligations_of};
+ghost use Rattle.bounds_check.specs.Outcomes.{AreObligations};
 ghost use Rattle.ob_check.specs.Held.{held};
 ghost use Rattle.unit_check.specs.Cached.{discharged_all};
 ghost use Rattle.config_live.specs.Origins.{origin};
 ghost use Rattle.config_live.specs.Places.{side_taken};
 ghost use Rattle.cursor_forward.specs.PlainCursor.{plain_side};
 ghost use Rattle.cursor_forward.specs.PlainProposal.{plain_proposal};
+ghost use Rattle.cursor_forward.specs.Proposals.{Plan};
 ghost use Rattle.made_trees.specs.Ids as ids;
 ghost use Rattle.step_rules.specs.Lawful.{config_side};
 ghost use Rattle.tree_laws.specs.Findings.Versions as longer;
@@ -25,7 +26,7 @@ ghost use Rattle.schedule_run.specs.Cached.{lists_for, lists_of};
 ghost use Rattle.schedule_run.specs.Outcomes.{Makes, Performs};
 ghost use Rattle.schedule_run.specs.Planned as plans;
 ghost use Rattle.schedule_run.specs.Planned.{has_form, planned_of, stepped, owed_with};
-ghost use Rattle.schedule_run.specs.Running.{IsRunning, versions_in};
+ghost use Rattle.schedule_run.specs.Running.{AreKept, IsRunning, versions_in};
 
 use crate::binding::let_go;
 use crate::fields::is_formed;
@@ -34,7 +35,7 @@ use crate::session::{Session, number_of};
 use crate::why::Why;
 use crate::writes::{add_writes, writes_of};
 use affine_systems::Obligation;
-use bounds_check::obligations_with_tables;
+use bounds_check::{CheckError, obligations_with_tables};
 use config_live::{FieldList, Origin};
 use config_state::FieldTable;
 use cursor_forward::{Proposal, Side};
@@ -42,21 +43,32 @@ use exo_modes::ModeTable;
 use exo_tree::{Proc, ProcId, Unit};
 use made_trees::next_id;
 use ob_check::{Cache, Gate};
+use owed_laws::laws::{own_names_stay, renamed_versions_owe_the_same};
 use schedule_calls::Operation;
 use std::alloc::{AllocError, Global};
 use std::thread::Threads;
 use step_driver::Target;
 use step_rules::laws::proposals_are_kept;
 use text_lexer::text::Text;
+use tree_laws::findings::laws::procedures_keep_rules;
 use unit_check::show;
 
+/// What the latest version owes that a step made.
+#[derive(Drop)]
+pub(crate) struct Latest {
+    pub version: ProcId,
+    pub owed: Vec<Obligation>,
+}
+
 /// Versions, with the tables that steps need: how each procedure touches its buffers, and which
-/// fields it may write. Nothing of a version is copied when another one comes.
+/// fields it may write; and with what the latest version owes, since it owes the same under another
+/// name. Nothing of a version is copied when another one comes.
 #[derive(Drop)]
 pub(crate) struct Running {
     pub session: Session,
     pub modes: ModeTable,
     pub writes: FieldTable,
+    pub latest: Option<Latest>,
 }
 
 /// Whether there is a number left for one procedure more, and ids for a step on this one.
@@ -81,7 +93,27 @@ impl Running {
             session,
             modes,
             writes,
+            latest: None,
         })
+    }
+
+    /// Whether an operation on version `k` gives the latest version another name alone.
+    fn renames_latest(&self, k: ProcId, operation: &Operation<'_>) -> bool
+        requires { IsRunning self.now }
+        ensures { result ≡ true → IfSome self.now.latest (λ l.
+            (m : Plan) → planned_of (versions_in self.now) (call_of (plain_operation operation.now)) k.0 ≡ plans.Got m
+            → AreKept l.owed.items (with_version (program self.now.session.unit) m.proc) m.proc) }
+    {
+        renamed_versions_owe_the_same();
+        own_names_stay();
+        procedures_keep_rules();
+        let Operation::Rename(_) = operation else {
+            return false;
+        };
+        match &self.latest {
+            Some(latest) => latest.version.0 == k.0,
+            None => false,
+        }
     }
 
     /// What an operation makes of version `k`. Without room for a step it is answered as want of
@@ -123,6 +155,7 @@ impl Running {
             { unit = with_version (program self.old.session.unit) (procedure proc) }) }
         ensures running { OnOk result (IsRunning self.new) }
     {
+        self.latest = None;
         let number = number_of(self.session.unit.procs.len())?;
         add_writes(
             alloc,
@@ -135,40 +168,31 @@ impl Running {
         Ok(number)
     }
 
-    /// Shows what is owed for a step and then what its result owes, and counts both.
-    fn shown<R: Threads + Sync, G: Gate>(
+    /// What a version owes: if it is the latest one before it under another name, the same.
+    fn listed(
         &self,
-        rt: &R,
         alloc: Global,
         p: ProcId,
-        must: &[Obligation],
-        cache: &mut Cache,
-        gate: &G,
-    ) -> Result<u64, Why>
-        requires { IsRunning self.now }
-        ensures exact { (q : Procedure) → slice_get (program self.now.session.unit).procedures p.0 ≡ Some q →
-            Makes (λ n.
-            n) (owed_with (program self.now.session.unit) (map plain_obligation must.now) q) result }
-        ensures cache { (q : Procedure)
-            → slice_get (program self.now.session.unit).procedures p.0 ≡ Some q
-            → OnOk result (held cache.new ≡ discharged_all (held cache.old)
-            (map plain_obligation must.now
-            ∷ obligations_of (program self.now.session.unit) q
-            ∷ [])) }
+        renames: bool,
+        latest: Option<Latest>,
+    ) -> Result<Vec<Obligation>, CheckError>
+        requires running { IsRunning self.now }
+        requires renames { renames ≡ true → IfSome latest (λ l.
+            (q : Procedure) → slice_get (program self.now.session.unit).procedures p.0 ≡ Some q
+            → AreKept l.owed.items (program self.now.session.unit) q) }
+        ensures { (q : Procedure) → slice_get (program self.now.session.unit).procedures p.0 ≡ Some q
+            → AreObligations result (program self.now.session.unit) q }
     {
-        let owed = obligations_with_tables(
-            alloc,
-            &self.session.unit,
-            &self.writes,
-            &self.modes,
-            p,
-        )?;
-        show(rt, alloc, must, cache, gate)?;
-        show(rt, alloc, &owed, cache, gate)?;
-        total(must.len(), owed.len())
+        if renames {
+            if let Some(latest) = latest {
+                return Ok(latest.owed);
+            }
+        }
+        obligations_with_tables(alloc, &self.session.unit, &self.writes, &self.modes, p)
     }
 
-    /// Puts what a step made of version `k` behind the versions, where all that it owes is shown.
+    /// Puts what a step made of version `k` behind the versions, where all that it owes is shown;
+    /// `renames`: it is the latest version under another name.
     fn add<R: Threads + Sync, G: Gate>(
         &mut self,
         rt: &R,
@@ -176,11 +200,15 @@ impl Running {
         bind: &Text,
         k: ProcId,
         made: Proposal,
+        renames: bool,
         cache: &mut Cache,
         gate: &G,
     ) -> Result<(), Why>
         requires running { IsRunning self.old }
         requires kept { IsUnit (with_version (program self.old.session.unit) (procedure made.proc)) }
+        requires renames { renames ≡ true → IfSome self.old.latest (λ l.
+            AreKept l.owed.items
+            (with_version (program self.old.session.unit) (procedure made.proc)) (procedure made.proc)) }
         ensures performs { Performs
             (stepped (versions_in self.old) bind.now k.0 (plans.Got (plain_proposal made)))
             (versions_in self.new) result }
@@ -196,9 +224,15 @@ impl Running {
             edits,
             ..
         } = made;
+        let latest = self.latest.take();
         let number = self.push(alloc, proc)?;
-        let shown = self.shown(rt, alloc, number, &must, cache, gate)?;
+        let owed = self.listed(alloc, number, renames, latest)?;
+        let shown = shown(rt, alloc, &must, &owed, cache, gate)?;
         self.session.add(alloc, bind, number, origin, edits, shown)?;
+        self.latest = Some(Latest {
+            version: number,
+            owed,
+        });
         Ok(())
     }
 
@@ -228,8 +262,9 @@ impl Running {
         let Some(k) = self.session.version_of(of.as_slice()) else {
             return Err(Why::UnknownProc);
         };
+        let renames = self.renames_latest(k, operation);
         let made = self.plan(alloc, k, operation)?;
-        self.add(rt, alloc, bind, k, made, cache, gate)
+        self.add(rt, alloc, bind, k, made, renames, cache, gate)
     }
 
     /// The same; the operation goes.
@@ -289,4 +324,23 @@ fn total(a: usize, b: usize) -> Result<u64, Why>
         Some(sum) => Ok(sum as u64),
         None => Err(Why::Memory),
     }
+}
+
+/// Shows what is owed for a step and then what its result owes, and counts both.
+fn shown<R: Threads + Sync, G: Gate>(
+    rt: &R,
+    alloc: Global,
+    must: &[Obligation],
+    owed: &[Obligation],
+    cache: &mut Cache,
+    gate: &G,
+) -> Result<u64, Why>
+    ensures exact { (u : Program) (q : Procedure) → AreKept owed.now u q →
+        Makes (λ n. n) (owed_with u (map plain_obligation must.now) q) result }
+    ensures cache { OnOk result (held cache.new ≡ discharged_all (held cache.old)
+        (map plain_obligation must.now ∷ map plain_obligation owed.now ∷ [])) }
+{
+    show(rt, alloc, must, cache, gate)?;
+    show(rt, alloc, owed, cache, gate)?;
+    total(must.len(), owed.len())
 }

@@ -3,6 +3,7 @@ use Rattle.std.proofs.lemmas.Result.{on_ok_weaker}
 use Rattle.ob_check.specs.Held.{held}
 use Rattle.unit_check.specs.Cached.{discharged_all}
 use Rattle.cursor_forward.specs.PlainProposal.{plain_proposal}
+use Rattle.std.proofs.lemmas.Option.{IfSome_then}
 use Rattle.schedule_calls.specs.PlainRequest.{plain_operation}
 use Rattle.schedule_laws.specs.Versions.Versions.{version_of}
 use Rattle.schedule_laws.specs.Versions.Lines.{Progress, Apply, performed}
@@ -52,3 +53,8 @@ returns-clause-cache g c =
     (sym (lists_are v c.args.bind.now c.args.of.now call c.in-Some.k.0 (plain_proposal c.in_ok-made.made) there
     c.in_ok-made.ensures.made)))
     c.add.ensures.cache
+
+pub add-requires-clause-renames : goal.add-requires-clause-renames
+add-requires-clause-renames c = λ is.
+    IfSome_then c.args.self.now.latest (c.renames_latest.ensures is)
+    (λ l kept. kept (plain_proposal c.in_ok-made.made) c.in_ok-made.ensures.made)
