@@ -82,26 +82,25 @@ module _ (scene : Scene) where
   abbrev HasSome : (ℕ → ℕ) → List Control → Control → Type 0
   HasSome most ds c = all_positive (numbers scene (c ∷ ds)) ≡ true → 1 ≤ cells_magnitude most (c ∷ ds)
 
+  some_of : (most : ℕ → ℕ) (ds : List Control) → (all_positive (numbers scene ds) ≡ true → 1 ≤ cells_magnitude most ds) → (z : ℤ) → HasSome most ds (Lit z)
+  some_of most ds rest (negsuc k) q = absurd (true≢false (sym (and_parts (int_le (pos 1) (negsuc k)) (all_positive (numbers scene ds)) q).0))
+  some_of most ds rest (pos k) q =
+      let parts = and_parts (int_le (pos 1) (pos k)) (all_positive (numbers scene ds)) q in
+      omega (arith, mul-le 1 1 k (cells_magnitude most ds) (at_least k parts.0) (rest parts.1))
+    where
+      at_least : (k : ℕ) → int_le (pos 1) (pos k) ≡ true → 1 ≤ k
+      at_least k e = grind arith
+
   some_cells : (most : ℕ → ℕ) (ds : List Control) → AreLiterals ds → all_positive (numbers scene ds) ≡ true → 1 ≤ cells_magnitude most ds
   some_cells most [] h p = omega arith
-  some_cells most (d ∷ ds) h p = subst (HasSome most ds) (sym h.0.1) (some_of h.0.0) p
-    where
-      some_of : (z : ℤ) → HasSome most ds (Lit z)
-      some_of (negsuc k) q = absurd (true≢false (sym (and_parts (int_le (pos 1) (negsuc k)) (all_positive (numbers scene ds)) q).0))
-      some_of (pos k) q =
-          let parts = and_parts (int_le (pos 1) (pos k)) (all_positive (numbers scene ds)) q in
-          let some : 1 ≤ k = at_least k parts.0 in
-          omega (arith, mul-le 1 k 1 (cells_magnitude most ds) some (some_cells most ds h.1 parts.1))
-        where
-          at_least : (k : ℕ) → int_le (pos 1) (pos k) ≡ true → 1 ≤ k
-          at_least k e = grind arith
+  some_cells most (d ∷ ds) h p = subst (HasSome most ds) (sym h.0.1) (some_of most ds (λ q. some_cells most ds h.1 q) h.0.0) p
 
   -- a part fits where the whole does
   part_fits : (n p : ℕ) → 1 ≤ p → fits (n * p) ≡ true → fits n ≡ true
-  part_fits n p h f = smaller n (n * p) (omega (arith, mul-le n n 1 p (le_refl n) h)) f
+  part_fits n p h f = smaller n (n * p) (omega (arith, mul-le n 1 n p (le_refl n) h)) f
     where
       smaller : (a b : ℕ) → a ≤ b → fits b ≡ true → fits a ≡ true
-      smaller a b l f = grind arith
+      smaller a b l g = grind arith
 
   within : (n : ℕ) → fits n ≡ true → int_le (pos n) (pos 4611686018427387904) ≡ true
   within n h = grind arith

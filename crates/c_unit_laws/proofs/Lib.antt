@@ -28,6 +28,7 @@ pub mod Files
 pub mod UnitsFollow
 pub mod Stores
 pub mod Runs
+pub mod Starts
 pub mod StrictTemplates
 pub mod Listings
 pub mod ColumnRun

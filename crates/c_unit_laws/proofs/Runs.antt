@@ -40,7 +40,7 @@ zero_fits : wrap I32 (pos 0) ≡ pos 0
 unfolding int_wrap
 zero_fits = refl
 
-the_shape : (b : ℕ) (shape : Shape) → input.scene.buffers b ≡ Some shape → shape ≡ tensor I32 eight_long
+pub the_shape : (b : ℕ) (shape : Shape) → input.scene.buffers b ≡ Some shape → shape ≡ tensor I32 eight_long
 the_shape b shape = by_one (λ o. o ≡ Some shape → shape ≡ tensor I32 eight_long) (Some (tensor I32 eight_long)) (Some (tensor I32 eight_long)) None b (λ i e. sym (some_same e)) (λ i e. sym (some_same e)) (λ e. absurd (none_some e))
 
 -- ---- the input

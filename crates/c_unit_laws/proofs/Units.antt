@@ -19,7 +19,7 @@ use Rattle.c_widths.specs.Raises.{IsCovered, Raises, most_at, given_to, memories
 use Rattle.c_lowered.specs.Lowered.{Naming, without_lanes, param_forms}
 use Rattle.c_lowered.specs.LoweredUnit.{Printing, routine_of, field_name, named_field, in_block, in_conditions, is_listed, counts, is_used, global_names}
 use Rattle.c_follows.specs.Simulation.{Ground}
-use Rattle.c_follows.specs.Good.{IsGoodBlock, AreGoodParams}
+use Rattle.c_follows.specs.Good.{IsGoodBlock, AreGoodParams, IsAlone}
 use Rattle.c_follows.specs.Units.{AreLowered}
 use Rattle.c_follows.specs.Grounds.{declared_in, naming_of, world_above, bounds_by, bounds_in, ground_of, plain_naming}
 use Rattle.c_unit_laws.specs.Laws.{IsGoodProcedure, PrintedProceduresAreGood, BodiesAreGood}
@@ -165,6 +165,10 @@ module _ (program : Program) (what : List Printing) (unit : IsUnit program) (low
 
     names_in : (naming : Naming) → naming.binder ≡ name_in (c_names (global_names program what) p) → naming.field ≡ named_field field_name program.fields → AreNamed (ground_of program what naming k p) (all_binders p)
     names_in naming b f = are_named program what p own.distinct lowers.named (few_names program what p own.distinct own.ids few_fields lowers.few) (ground_of program what naming k p) b f refl refl
+
+    -- no two fields that the C declares have one name
+    pub fields_apart : (f : ℕ) → declared_in program what f ≡ true → IsAlone (naming_of program what p) (declared_in program what) f
+    fields_apart f d = (names_in (naming_of program what p) refl refl).alone f d
 
     -- no binder has a word of C for a name, or that of a function or a field
     pub free_names : (b : Binder) → IsIn b (all_binders p) → (is_word ((naming_of program what p).binder b.id) ≡ false) × (is_in (global_names program what) ((naming_of program what p).binder b.id) ≡ false)

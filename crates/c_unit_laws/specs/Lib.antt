@@ -4,6 +4,7 @@ pub mod Stores
 pub mod Listings
 pub mod Instance
 pub mod Runs
+pub mod Starts
 pub mod StrictTemplates
 pub mod ColumnRun
 pub mod Undeclared

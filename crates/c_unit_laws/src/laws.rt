@@ -7,6 +7,7 @@ ghost use Rattle.c_unit_laws.specs.Listings.{PrintingsAreListings, EmittedArePri
 ghost use Rattle.c_unit_laws.specs.Stores.{FilesWithoutAllocationsAreDone};
 ghost use Rattle.c_unit_laws.specs.Instance.{ColumnsHaveC, VectorsHaveC};
 ghost use Rattle.c_unit_laws.specs.Runs.{VectorsRun};
+ghost use Rattle.c_unit_laws.specs.Starts.{StartsExist, InputsFit};
 ghost use Rattle.c_unit_laws.specs.StrictTemplates.{StrictTemplatesRun};
 ghost use Rattle.c_unit_laws.specs.ColumnRun.{ColumnsRun, PrintingsAreComputed};
 
@@ -46,6 +47,11 @@ pub fn files_without_allocations_are_done()
     ensures { FilesWithoutAllocationsAreDone }
 {}
 
+/// Each valid state whose buffers fit objects is the start of a call of a function of a file.
+pub fn starts_exist()
+    ensures { StartsExist }
+{}
+
 /// What a file prints is in the order of the unit, with all functions that it calls.
 pub fn printings_are_listings()
     ensures { PrintingsAreListings }
@@ -69,6 +75,11 @@ pub fn vectors_have_c()
 /// A call of a function that copies by instructions meets what the law on files asks, and is done.
 pub fn vectors_run()
     ensures { VectorsRun }
+{}
+
+/// What it is called on is such a state.
+pub fn inputs_fit()
+    ensures { InputsFit }
 {}
 
 /// Templates need not be their bodies: with ones that fault where a window is not dense the same
