@@ -1,17 +1,24 @@
--- Fourier-Motzkin elimination over the integers, on lists of affine sums: equations are solved and put in, rows are tightened
--- and merged, and one variable after the other is eliminated. J. Fourier (1826) and T. Motzkin (1936), as in A. Schrijver,
--- Theory of Linear and Integer Programming (1986), section 12.2; the rules for equations and for rounding constants down are
--- those of W. Pugh, The Omega test (1991). Rows stay in the order in which they stand or are made.
-use Rattle.std.specs.Prelude.{ℕ, zero, suc, ◌+◌, ◌&&◌, nat_lt, if◌then◌else◌, List, [], ◌∷◌, ◌++◌, map, Option, Some, None, is_some}
+-- Fourier-Motzkin elimination over the integers, on lists of affine sums: equations are solved and
+-- put in, rows are tightened and merged, and one variable after the other is eliminated. J. Fourier
+-- (1826) and T. Motzkin (1936), as in A. Schrijver, Theory of Linear and Integer Programming
+-- (1986), section 12.2; the rules for equations and for rounding constants down are those of W.
+-- Pugh, The Omega test (1991). Rows stay in the order in which they stand or are made.
+use Rattle.std.specs.Prelude.{ℕ, zero, suc, ◌+◌, ◌&&◌, nat_lt, if◌then◌else◌, List, [], ◌∷◌, ◌++◌}
+use Rattle.std.specs.Prelude.{map, Option, Some, None, is_some}
 use Rattle.std.specs.List.{list_all, count_by, flat_map, find, remove, position_or_len}
 use Rattle.affine_forms.specs.Affine.{Affine, Constraints}
 use Rattle.affine_prover.specs.declared.answer.Verdict.{Verdict}
 use Rattle.affine_prover.specs.declared.answer.Verdict.TheVariants.{Shown, Open, TooMany, TooWide}
-pub use Rattle.affine_rows.specs.Rows.{gcd_within, gcd_of, coefficient, is_constant, weighed, is_narrow_weighed, weighed_lists, are_narrow_weighed, combined, is_narrow_combined, without}
+pub use Rattle.affine_rows.specs.Rows.{gcd_within, gcd_of, coefficient, is_constant, weighed}
+pub use Rattle.affine_rows.specs.Rows.{is_narrow_weighed, weighed_lists, are_narrow_weighed}
+pub use Rattle.affine_rows.specs.Rows.{combined, is_narrow_combined, without}
 pub use Rattle.affine_rows.specs.Rows.{tightened, same_list, joined, merged, is_false}
-pub use Rattle.affine_rows.specs.Rows.{is_lower_bound, is_upper_bound, is_free, pairs, least_at, lower_factor, upper_factor, combination, is_narrow_combination, following, is_narrow_following}
+pub use Rattle.affine_rows.specs.Rows.{is_lower_bound, is_upper_bound, is_free, pairs, least_at}
+pub use Rattle.affine_rows.specs.Rows.{lower_factor, upper_factor, combination}
+pub use Rattle.affine_rows.specs.Rows.{is_narrow_combination, following, is_narrow_following}
 unfoldable pub use Rattle.affine_rows.specs.Rows.{gcd, normalized, reduced}
-pub use Rattle.affine_rows.specs.Rows.{is_impossible, is_unit, has_unit, unit_place, solving_factor, substituted, is_narrow_substituted, negated}
+pub use Rattle.affine_rows.specs.Rows.{is_impossible, is_unit, has_unit, unit_place, solving_factor}
+pub use Rattle.affine_rows.specs.Rows.{substituted, is_narrow_substituted, negated}
 
 -- ---- rows: one variable after the other
 
@@ -20,7 +27,8 @@ pub data Stage : Type 0 where
   Ended : Verdict → Stage
   Rows : List Affine → Stage
 
--- the rows with variable v eliminated, or why the elimination ends there: the rows are counted before a combination is made
+-- the rows with variable v eliminated, or why the elimination ends there: the rows are counted
+-- before a combination is made
 unfoldable pub variable_eliminated : ℕ → List Affine → Stage
 variable_eliminated v rows =
     if nat_lt 4096 (count_by (is_free v) rows + pairs rows v) then Ended TooMany
@@ -38,7 +46,8 @@ stage n rows = stage_of n (normalized rows)
 -- the verdict on rows over n variables
 unfoldable pub verdict_on_rows : ℕ → List Affine → Verdict
 verdict_on_rows zero rows = if is_some (normalized rows) then Open else Shown
-verdict_on_rows (suc n) rows = elim (stage (suc n) rows) [ Ended v ↦ v | Rows next ↦ verdict_on_rows n next ]
+verdict_on_rows (suc n) rows =
+    elim (stage (suc n) rows) [ Ended v ↦ v | Rows next ↦ verdict_on_rows n next ]
 
 -- ---- equations
 
@@ -53,9 +62,12 @@ unfoldable pub put_in : List Affine → List Affine → Affine → Round
 put_in es rows e =
     let v = unit_place e in
     let others = remove es (position_or_len has_unit es) in
-    if list_all (is_narrow_substituted v e) others && list_all (is_narrow_substituted v e) rows then Solved (map (substituted v e) others) (map (substituted v e) rows) else Finished TooWide
+    if list_all (is_narrow_substituted v e) others && list_all (is_narrow_substituted v e) rows
+    then Solved (map (substituted v e) others) (map (substituted v e) rows)
+    else Finished TooWide
 
--- the first equation that can be solved is solved; where there is none, each equation becomes two rows
+-- the first equation that can be solved is solved; where there is none, each equation becomes two
+-- rows
 abbrev pub round_of : List Affine → List Affine → Option Affine → Round
 round_of es rows None = Unsolved (rows ++ flat_map (λ e. e ∷ negated e ∷ []) es)
 round_of es rows (Some e) = put_in es rows e
@@ -69,8 +81,18 @@ round equations rows = round_on rows (reduced equations)
 
 -- the verdict on equations and rows over n variables
 unfoldable pub verdict_on : ℕ → List Affine → List Affine → Verdict
-verdict_on zero equations rows = elim (round equations rows) [ Finished v ↦ v | Solved es rs ↦ Open | Unsolved rs ↦ verdict_on_rows zero rs ]
-verdict_on (suc n) equations rows = elim (round equations rows) [ Finished v ↦ v | Solved es rs ↦ verdict_on n es rs | Unsolved rs ↦ verdict_on_rows (suc n) rs ]
+verdict_on zero equations rows =
+    elim (round equations rows) [
+      | Finished v ↦ v
+      | Solved es rs ↦ Open
+      | Unsolved rs ↦ verdict_on_rows zero rs
+    ]
+verdict_on (suc n) equations rows =
+    elim (round equations rows) [
+      | Finished v ↦ v
+      | Solved es rs ↦ verdict_on n es rs
+      | Unsolved rs ↦ verdict_on_rows (suc n) rs
+    ]
 
 -- the verdict on a system
 abbrev pub elimination : Constraints → Verdict

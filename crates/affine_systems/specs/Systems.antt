@@ -1,15 +1,20 @@
--- Claims over atoms as systems over numbered variables: the hypotheses and the denied claim in disjunctive normal form,
--- and for each of its cases a system of linear constraints, with rows that say what a quotient is
--- (as W. Pugh, The Omega test, 1991, does for floors in Presburger arithmetic).
-use Rattle.std.specs.Prelude.{ℕ, zero, suc, ◌+◌, nat_le, ℤ, pos, ◌+ℤ◌, ◌-ℤ◌, Bool, true, false, ◌&&◌, if◌then◌else◌, List, [], ◌∷◌, ◌++◌, map, length}
+-- Claims over atoms as systems over numbered variables: the hypotheses and the denied claim in
+-- disjunctive normal form, and for each of its cases a system of linear constraints, with rows that
+-- say what a quotient is (as W. Pugh, The Omega test, 1991, does for floors in Presburger
+-- arithmetic).
+use Rattle.std.specs.Prelude.{ℕ, zero, suc, ◌+◌, nat_le, ℤ, pos, ◌+ℤ◌, ◌-ℤ◌, Bool, true, false}
+use Rattle.std.specs.Prelude.{◌&&◌, if◌then◌else◌, List, [], ◌∷◌, ◌++◌, map, length}
 use Rattle.std.specs.List.{AllByRecursion, list_any, list_all, position_or_len}
 use Rattle.std.specs.Int.{is_positive}
 use Rattle.exo_tree.specs.Tree.{Kind, Size, Index, Truth, Stride}
 use Rattle.exo_tree.specs.Places.{Path}
 use Rattle.exo_meaning.specs.Inputs.{IsOfKind}
 use Rattle.affine_forms.specs.Affine.{Affine, Constraints, HasNoIntegerPoint}
-use Rattle.affine_forms.specs.Atoms.{Atom, Variable, EntryField, UnknownField, OpaqueStride, Quotient, Terms, none, term, Linear, Valuation, same_atom, only, constantly, scaled, subtracted}
-use Rattle.affine_forms.specs.Formulas.{Constraint, AtLeastZero, IsZero, Formula, moved, negation, cases_of_all}
+use Rattle.affine_forms.specs.Atoms.{Atom, Variable, EntryField, UnknownField, OpaqueStride}
+use Rattle.affine_forms.specs.Atoms.{Quotient, Terms, none, term, Linear, Valuation, same_atom}
+use Rattle.affine_forms.specs.Atoms.{only, constantly, scaled, subtracted}
+use Rattle.affine_forms.specs.Formulas.{Constraint, AtLeastZero, IsZero, Formula, moved, negation}
+use Rattle.affine_forms.specs.Formulas.{cases_of_all}
 
 -- the constraints so far, and the atoms that stand in them by first appearance
 pub record Made : Type 0 where
@@ -38,7 +43,10 @@ is_equation (AtLeastZero l) = false
 is_equation (IsZero l) = true
 
 abbrev pub with_constraint : Made → Constraint → Made
-with_constraint made c = record { atoms = with_atoms made.atoms (sum_of c).terms; constraints = made.constraints ++ c ∷ [] }
+with_constraint made c = record {
+  atoms = with_atoms made.atoms (sum_of c).terms;
+  constraints = made.constraints ++ c ∷ [];
+}
 
 abbrev pub with_constraints : Made → List Constraint → Made
 with_constraints made [] = made
@@ -48,7 +56,12 @@ with_constraints made (c ∷ cs) = with_constraints (with_constraint made c) cs
 
 -- a quotient q of e by c: e - c * q, and c * q + c - 1 - e. A literal of a quotient is at least 1
 abbrev pub quotient_rows : Linear → Linear → ℤ → List Constraint
-quotient_rows e q c = if is_positive c then AtLeastZero (subtracted e (scaled c q)) ∷ AtLeastZero (subtracted (moved (pos 1 -ℤ c) (scaled c q)) e) ∷ [] else []
+quotient_rows e q c =
+    if is_positive c
+    then AtLeastZero (subtracted e (scaled c q))
+    ∷ AtLeastZero (subtracted (moved (pos 1 -ℤ c) (scaled c q)) e)
+    ∷ []
+    else []
 
 -- a size is at least 1, and a bool is 0 or 1
 abbrev pub kind_rows : Kind → Linear → List Constraint
@@ -62,16 +75,26 @@ own_rows (Variable x) = []
 own_rows (EntryField f kind) = kind_rows kind (only (EntryField f kind))
 own_rows (UnknownField f kind path) = kind_rows kind (only (UnknownField f kind path))
 own_rows (OpaqueStride x k) = []
-own_rows (Quotient n ts c) = quotient_rows (record { constant = n; terms = ts }) (only (Quotient n ts c)) c
+own_rows (Quotient n ts c) =
+    quotient_rows (record { constant = n; terms = ts }) (only (Quotient n ts c)) c
 
 -- the rows of the atoms inside come before the atom's own
 abbrev mutual
   pub explained : Atom → Made → Made
   explained (Variable x) made = made
-  explained (EntryField f kind) made = if stands_in made.atoms (EntryField f kind) then made else with_constraints made (own_rows (EntryField f kind))
-  explained (UnknownField f kind path) made = if stands_in made.atoms (UnknownField f kind path) then made else with_constraints made (own_rows (UnknownField f kind path))
+  explained (EntryField f kind) made =
+      if stands_in made.atoms (EntryField f kind)
+      then made
+      else with_constraints made (own_rows (EntryField f kind))
+  explained (UnknownField f kind path) made =
+      if stands_in made.atoms (UnknownField f kind path)
+      then made
+      else with_constraints made (own_rows (UnknownField f kind path))
   explained (OpaqueStride x k) made = made
-  explained (Quotient n ts c) made = if stands_in made.atoms (Quotient n ts c) then made else with_constraints (all_explained ts made) (own_rows (Quotient n ts c))
+  explained (Quotient n ts c) made =
+      if stands_in made.atoms (Quotient n ts c)
+      then made
+      else with_constraints (all_explained ts made) (own_rows (Quotient n ts c))
 
   pub all_explained : Terms → Made → Made
   all_explained none made = made
@@ -93,7 +116,8 @@ added_at (suc k) z (c ∷ cs) = c ∷ added_at k z cs
 -- each term adds its coefficient at the number of its atom
 abbrev pub numbered_onto : List Atom → List ℤ → Terms → List ℤ
 numbered_onto atoms cs none = cs
-numbered_onto atoms cs (term c a ts) = numbered_onto atoms (added_at (position_or_len (same_atom a) atoms) c cs) ts
+numbered_onto atoms cs (term c a ts) =
+    numbered_onto atoms (added_at (position_or_len (same_atom a) atoms) c cs) ts
 
 -- the coefficient of each atom
 abbrev pub numbered : List Atom → Terms → List ℤ
@@ -113,7 +137,11 @@ rows_of atoms (AtLeastZero l ∷ cs) = affine atoms l ∷ rows_of atoms cs
 rows_of atoms (IsZero l ∷ cs) = rows_of atoms cs
 
 abbrev pub system_of : Made → Constraints
-system_of made = record { variables = length made.atoms; equations = equations_of made.atoms made.constraints; rows = rows_of made.atoms made.constraints }
+system_of made = record {
+  variables = length made.atoms;
+  equations = equations_of made.atoms made.constraints;
+  rows = rows_of made.atoms made.constraints;
+}
 
 abbrev pub nothing : Made
 nothing = record { atoms = []; constraints = [] }
@@ -152,7 +180,8 @@ IsShown context claim = HaveNoPoint (failing context claim)
 abbrev pub is_small : Constraints → Bool
 is_small s = nat_le s.variables 64 && nat_le (length s.equations + length s.rows) 512
 
--- what can be said of formulas: too many cases (more than 64) come before a system that is too large
+-- what can be said of formulas: too many cases (more than 64) come before a system that is too
+-- large
 pub data Stated : Type 0 where
   CasesPassed SizePassed : Stated
   Listed : List Constraints → Stated

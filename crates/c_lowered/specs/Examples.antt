@@ -1,6 +1,10 @@
 -- Closed texts, by which the rules of lowering can be read off.
 use Rattle.std.specs.Prelude.{◌≡◌, ℕ, suc, pos, true, false, List, [], ◌∷◌, ◌++◌, codes, Some, None}
-use Rattle.exo_tree.specs.Tree.{Cell, I8, I16, I32, Ui8, Size, Binder, Control, Lit, Var, StrideOf, Sub, Condition, Eq, Coord, At, Span, ControlArg, Whole, Window, Const, Read, Statement, Assign, For, Alloc, View, Call, Block, end, next, Param, ParamKind, ControlParam, TensorParam, WindowParam, Procedure, MemoryKind, Program}
+use Rattle.exo_tree.specs.Tree.{Cell, I8, I16, I32, Ui8, Size, Binder, Control, Lit, Var, StrideOf}
+use Rattle.exo_tree.specs.Tree.{Sub, Condition, Eq, Coord, At, Span, ControlArg, Whole, Window}
+use Rattle.exo_tree.specs.Tree.{Const, Read, Statement, Assign, For, Alloc, View, Call, Block, end}
+use Rattle.exo_tree.specs.Tree.{next, Param, ParamKind, ControlParam, TensorParam, WindowParam}
+use Rattle.exo_tree.specs.Tree.{Procedure, MemoryKind, Program}
 use Rattle.c_tree.specs.CText.{Text, margin, each, struct_text, function_text}
 use Rattle.c_tree.specs.CTree.{CUnit}
 use Rattle.c_lowered.specs.LoweredUnit.{Printing, lowered}
@@ -28,7 +32,10 @@ for_l l hi a = next (For (named l (codes "l")) (Lit (pos 0)) hi (next a end)) en
 abbrev pub fill : Procedure
 fill = record {
   name = codes "fill";
-  params = param 0 (codes "n") (ControlParam Size) ∷ param 1 (codes "w") (WindowParam I32 (Var 0 ∷ []) 0) ∷ [];
+  params =
+      param 0 (codes "n") (ControlParam Size)
+      ∷ param 1 (codes "w") (WindowParam I32 (Var 0 ∷ []) 0)
+      ∷ [];
   asserts = [];
   body = for_l 2 (Var 0) (Assign 1 (Var 2 ∷ []) (Const (pos 5)));
   template = None;
@@ -38,7 +45,11 @@ fill = record {
 abbrev pub col : Block → Procedure
 col body = record {
   name = codes "col";
-  params = param 3 (codes "M") (ControlParam Size) ∷ param 4 (codes "N") (ControlParam Size) ∷ param 5 (codes "A") (TensorParam I32 (Var 3 ∷ Var 4 ∷ []) 0) ∷ [];
+  params =
+      param 3 (codes "M") (ControlParam Size)
+      ∷ param 4 (codes "N") (ControlParam Size)
+      ∷ param 5 (codes "A") (TensorParam I32 (Var 3 ∷ Var 4 ∷ []) 0)
+      ∷ [];
   asserts = [];
   body = body;
   template = None;
@@ -49,7 +60,10 @@ abbrev pub last_column : List Coord
 last_column = Span (Lit (pos 0)) (Var 3) ∷ At (Sub (Var 4) (Lit (pos 1))) ∷ []
 
 abbrev pub columns : Block → Text
-columns body = lines_of (lowered (record { procedures = fill ∷ col body ∷ []; fields = []; memories = [] }) (printed 0 (codes "fill") ∷ printed 1 (codes "col") ∷ []))
+columns body =
+    lines_of (lowered
+    (record { procedures = fill ∷ col body ∷ []; fields = []; memories = [] })
+    (printed 0 (codes "fill") ∷ printed 1 (codes "col") ∷ []))
 
 abbrev pub fill_lines : Text
 fill_lines =
@@ -87,10 +101,20 @@ put_lines =
 pub record WindowsArePrinted : Type 0 where
   pub as_argument :
       columns (next (Call 0 (ControlArg (Var 3) ∷ Window 5 last_column ∷ [])) end) ≡
-      fill_lines ++ margin (codes "    fill(M, (struct exo_win_1i32){ &A[((0LL * N) + (N - 1LL))], { N } });") ++ margin (codes "}")
+      fill_lines
+      ++ margin (codes "    fill(M, (struct exo_win_1i32){ &A[((0LL * N) + (N - 1LL))], { N } });")
+      ++ margin (codes "}")
   pub as_view :
-      columns (next (View (named 6 (codes "v")) 5 last_column) (next (Call 0 (ControlArg (Var 3) ∷ Whole 6 ∷ [])) end)) ≡
-      fill_lines ++ margin (codes "    struct exo_win_1i32 v = (struct exo_win_1i32){ &A[((0LL * N) + (N - 1LL))], { N } };") ++ margin (codes "    fill(M, v);") ++ margin (codes "}")
+      columns
+      (next
+      (View (named 6 (codes "v")) 5 last_column)
+      (next (Call 0 (ControlArg (Var 3) ∷ Whole 6 ∷ [])) end)) ≡
+      fill_lines
+      ++ margin
+      (codes
+      "    struct exo_win_1i32 v = (struct exo_win_1i32){ &A[((0LL * N) + (N - 1LL))], { N } };")
+      ++ margin (codes "    fill(M, v);")
+      ++ margin (codes "}")
   pub by_type :
       lines_of (lowered
       (record { procedures = put ∷ []; fields = []; memories = [] }) (printed 0 (codes "put") ∷ []))
@@ -99,10 +123,30 @@ pub record WindowsArePrinted : Type 0 where
 -- ---- instructions and vectors
 
 abbrev pub dram : MemoryKind
-dram = record { name = codes "DRAM"; ctype = []; lanes = 0; cell = None; stack = false; read = true; write = true; reduce = true; header = [] }
+dram = record {
+  name = codes "DRAM";
+  ctype = [];
+  lanes = 0;
+  cell = None;
+  stack = false;
+  read = true;
+  write = true;
+  reduce = true;
+  header = [];
+}
 
 abbrev pub avx2 : MemoryKind
-avx2 = record { name = codes "AVX2"; ctype = codes "__m256i"; lanes = 8; cell = Some I32; stack = true; read = false; write = false; reduce = false; header = codes "immintrin.h" }
+avx2 = record {
+  name = codes "AVX2";
+  ctype = codes "__m256i";
+  lanes = 8;
+  cell = Some I32;
+  stack = true;
+  read = false;
+  write = false;
+  reduce = false;
+  header = codes "immintrin.h";
+}
 
 abbrev pub eight : List Control
 eight = Lit (pos 8) ∷ []
@@ -115,17 +159,30 @@ in_order x = Eq (StrideOf x 0) (Lit (pos 1))
 abbrev pub moves8 : List ℕ → List ℕ → ℕ → ℕ → ℕ → Procedure
 moves8 name template id to from = record {
   name = name;
-  params = param id (codes "dst") (WindowParam I32 eight to) ∷ param (suc id) (codes "src") (WindowParam I32 eight from) ∷ [];
+  params =
+      param id (codes "dst") (WindowParam I32 eight to)
+      ∷ param (suc id) (codes "src") (WindowParam I32 eight from)
+      ∷ [];
   asserts = in_order (suc id) ∷ in_order id ∷ [];
-  body = for_l (suc (suc id)) (Lit (pos 8)) (Assign id (Var (suc (suc id)) ∷ []) (Read (suc id) (Var (suc (suc id)) ∷ [])));
+  body =
+      for_l
+      (suc (suc id))
+      (Lit (pos 8))
+      (Assign id (Var (suc (suc id)) ∷ []) (Read (suc id) (Var (suc (suc id)) ∷ [])));
   template = Some template;
 }
 
 abbrev pub load8 : Procedure
-load8 = moves8 (codes "load8") (codes "{dst_data} = _mm256_loadu_si256((const __m256i *)&{src_data});") 0 1 0
+load8 =
+    moves8 (codes "load8")
+    (codes "{dst_data} = _mm256_loadu_si256((const __m256i *)&{src_data});")
+    0 1 0
 
 abbrev pub store8 : Procedure
-store8 = moves8 (codes "store8") (codes "_mm256_storeu_si256((__m256i *)&{dst_data}, {src_data});") 3 0 1
+store8 =
+    moves8 (codes "store8")
+    (codes "_mm256_storeu_si256((__m256i *)&{dst_data}, {src_data});")
+    3 0 1
 
 -- 0:8
 abbrev pub first8 : List Coord
@@ -135,17 +192,29 @@ first8 = Span (Lit (pos 0)) (Lit (pos 8)) ∷ []
 abbrev pub copy8 : Procedure
 copy8 = record {
   name = codes "copy8";
-  params = param 6 (codes "x") (TensorParam I32 eight 0) ∷ param 7 (codes "y") (TensorParam I32 eight 0) ∷ [];
+  params =
+      param 6 (codes "x") (TensorParam I32 eight 0)
+      ∷ param 7 (codes "y") (TensorParam I32 eight 0)
+      ∷ [];
   asserts = [];
-  body = next (Alloc (named 8 (codes "v")) I32 eight 1) (next (Call 0 (Window 8 first8 ∷ Window 6 first8 ∷ [])) (next (Call 1 (Window 7 first8 ∷ Window 8 first8 ∷ [])) end));
+  body =
+      next (Alloc (named 8 (codes "v")) I32 eight 1)
+      (next (Call 0 (Window 8 first8 ∷ Window 6 first8 ∷ []))
+      (next (Call 1 (Window 7 first8 ∷ Window 8 first8 ∷ [])) end));
   template = None;
 }
 
 abbrev pub vector_program : Program
-vector_program = record { procedures = load8 ∷ store8 ∷ copy8 ∷ []; fields = []; memories = dram ∷ avx2 ∷ [] }
+vector_program = record {
+  procedures = load8 ∷ store8 ∷ copy8 ∷ [];
+  fields = [];
+  memories = dram ∷ avx2 ∷ [];
+}
 
 pub record InstructionsArePrinted : Type 0 where
-  pub includes : (lowered vector_program (printed 2 (codes "copy8") ∷ [])).includes ≡ codes "immintrin.h" ∷ []
+  pub includes :
+      (lowered vector_program (printed 2 (codes "copy8") ∷ [])).includes ≡
+      codes "immintrin.h" ∷ []
   pub lines :
       lines_of (lowered vector_program (printed 2 (codes "copy8") ∷ [])) ≡
       margin [] ++ margin (codes "void copy8(int32_t *x, int32_t *y) {")

@@ -1,8 +1,13 @@
 -- Calls by copies.
-use Rattle.std.specs.Prelude.{ℕ, ℤ, pos, ◌==◌, int_le, Bool, true, false, not, ◌&&◌, ◌||◌, if◌then◌else◌, List, [], ◌∷◌, Option, Some, None, option_map, slice_get}
-use Rattle.exo_tree.specs.Tree.{Cell, Kind, Size, Index, Truth, Stride, Condition, Argument, ControlArg, ConditionArg, Whole, Window, Param, ParamKind, ControlParam, TensorParam, WindowParam, Procedure}
+use Rattle.std.specs.Prelude.{ℕ, ℤ, pos, ◌==◌, int_le, Bool, true, false, not, ◌&&◌, ◌||◌}
+use Rattle.std.specs.Prelude.{if◌then◌else◌, List, [], ◌∷◌, Option, Some, None, option_map}
+use Rattle.std.specs.Prelude.{slice_get}
+use Rattle.exo_tree.specs.Tree.{Cell, Kind, Size, Index, Truth, Stride, Condition, Argument}
+use Rattle.exo_tree.specs.Tree.{ControlArg, ConditionArg, Whole, Window, Param, ParamKind}
+use Rattle.exo_tree.specs.Tree.{ControlParam, TensorParam, WindowParam, Procedure}
 use Rattle.exo_meaning.specs.Value.{Value, Undefined}
-use Rattle.exo_meaning.specs.Scene.{then_do, Seen, Scene, updated, number, numbers, holds, cell_at, index_of, extents, strides_seen, window, where_true, are_apart}
+use Rattle.exo_meaning.specs.Scene.{then_do, Seen, Scene, updated, number, numbers, holds, cell_at}
+use Rattle.exo_meaning.specs.Scene.{index_of, extents, strides_seen, window, where_true, are_apart}
 use Rattle.exo_meaning.specs.State.{State, Cells, same_index, with_buffer, with_contents, on_scene}
 
 -- a procedure with the run of its body, and the parameters that it writes or reduces
@@ -30,7 +35,8 @@ given scene (Window x coords) = option_map GivenView (window scene x coords)
 
 abbrev pub all_given : Scene → List Argument → Option (List Given)
 all_given scene [] = Some []
-all_given scene (a ∷ rest) = then_do (given scene a) (λ g. option_map (λ gs. g ∷ gs) (all_given scene rest))
+all_given scene (a ∷ rest) =
+    then_do (given scene a) (λ g. option_map (λ gs. g ∷ gs) (all_given scene rest))
 
 -- ---- the callee's first state
 
@@ -42,7 +48,8 @@ suits Truth n = true
 suits Stride n = true
 
 abbrev pub bind_number : ℕ → ParamKind → Given → (ℕ → ℤ) → Option (ℕ → ℤ)
-bind_number x (ControlParam kind) (GivenNumber n) control = where_true (suits kind n) (Some (updated control x n))
+bind_number x (ControlParam kind) (GivenNumber n) control =
+    where_true (suits kind n) (Some (updated control x n))
 bind_number x (ControlParam kind) (GivenView seen) control = None
 bind_number x (TensorParam cell dims memory) g control = Some control
 bind_number x (WindowParam cell dims memory) g control = Some control
@@ -51,7 +58,8 @@ abbrev pub bind_numbers : List Param → List Given → (ℕ → ℤ) → Option
 bind_numbers [] [] control = Some control
 bind_numbers [] (g ∷ gs) control = None
 bind_numbers (p ∷ ps) [] control = None
-bind_numbers (p ∷ ps) (g ∷ gs) control = then_do (bind_number p.binder.id p.kind g control) (bind_numbers ps gs)
+bind_numbers (p ∷ ps) (g ∷ gs) control =
+    then_do (bind_number p.binder.id p.kind g control) (bind_numbers ps gs)
 
 abbrev pub all_positive : List ℤ → Bool
 all_positive [] = true
@@ -69,17 +77,25 @@ contents cells seen is = held_at (cells seen.buffer) (cell_at seen.sides is)
 abbrev pub copy_in : State → ℕ → Cell → List ℤ → Given → State → Option State
 copy_in outer x cell dims (GivenNumber n) s = None
 copy_in outer x cell dims (GivenView seen) s =
-    where_true (same_index dims (extents seen.sides) && all_positive dims) (Some (with_contents x (contents outer.cells seen) (on_scene (with_buffer x (record { cell = cell; dims = dims; strides = strides_seen outer.scene seen })) s)))
+    where_true
+    (same_index dims (extents seen.sides) && all_positive dims)
+    (Some (with_contents x (contents outer.cells seen)
+    (on_scene
+    (with_buffer x (record { cell = cell; dims = dims; strides = strides_seen outer.scene seen }))
+    s)))
 
 abbrev pub bind_buffer : State → ℕ → ParamKind → Given → State → Option State
 bind_buffer outer x (ControlParam kind) g s = Some s
-bind_buffer outer x (TensorParam cell dims memory) g s = copy_in outer x cell (numbers s.scene dims) g s
-bind_buffer outer x (WindowParam cell dims memory) g s = copy_in outer x cell (numbers s.scene dims) g s
+bind_buffer outer x (TensorParam cell dims memory) g s =
+    copy_in outer x cell (numbers s.scene dims) g s
+bind_buffer outer x (WindowParam cell dims memory) g s =
+    copy_in outer x cell (numbers s.scene dims) g s
 
 abbrev pub bind_buffers : State → List Param → List Given → State → Option State
 bind_buffers outer [] gs s = Some s
 bind_buffers outer (p ∷ ps) [] s = None
-bind_buffers outer (p ∷ ps) (g ∷ gs) s = then_do (bind_buffer outer p.binder.id p.kind g s) (bind_buffers outer ps gs)
+bind_buffers outer (p ∷ ps) (g ∷ gs) s =
+    then_do (bind_buffer outer p.binder.id p.kind g s) (bind_buffers outer ps gs)
 
 -- no names yet but the control parameters'
 abbrev pub bare : (ℕ → ℤ) → (ℕ → ℤ) → State
@@ -90,7 +106,9 @@ bare control fields = record {
 
 abbrev pub entered : List Param → List Given → State → Option State
 entered ps gs outer =
-    then_do (bind_numbers ps gs (λ x. pos 0)) (λ control. bind_buffers outer ps gs (bare control outer.scene.fields))
+    then_do
+    (bind_numbers ps gs (λ x. pos 0))
+    (λ control. bind_buffers outer ps gs (bare control outer.scene.fields))
 
 -- ---- the way back
 
@@ -102,12 +120,17 @@ value_or (Some is) contents v = contents is
 abbrev pub copy_back : Bool → Given → (List ℤ → Value) → Cells → Cells
 copy_back false g copy cells = cells
 copy_back true (GivenNumber n) copy cells = cells
-copy_back true (GivenView seen) copy cells = λ b at. if b == seen.buffer then value_or (index_of seen.sides at) copy (cells b at) else cells b at
+copy_back true (GivenView seen) copy cells =
+    λ b at. if b == seen.buffer
+    then value_or (index_of seen.sides at) copy (cells b at)
+    else cells b at
 
 abbrev pub copied_back : (ℕ → Bool) → List Param → List Given → Cells → Cells → Cells
 copied_back writes [] gs copies cells = cells
 copied_back writes (p ∷ ps) [] copies cells = cells
-copied_back writes (p ∷ ps) (g ∷ gs) copies cells = copied_back writes ps gs copies (copy_back (writes p.binder.id) g (copies p.binder.id) cells)
+copied_back writes (p ∷ ps) (g ∷ gs) copies cells =
+    copied_back writes ps gs copies
+    (copy_back (writes p.binder.id) g (copies p.binder.id) cells)
 
 abbrev pub returned : Callee → List Given → State → State → State
 returned callee gs outer inner = record {
@@ -122,11 +145,14 @@ given_apart (GivenNumber n) h = true
 given_apart (GivenView z) (GivenNumber n) = true
 given_apart (GivenView z) (GivenView y) = are_apart z y
 
--- what is given for a parameter meets none of what is given for later ones, but where neither of the two is written
+-- what is given for a parameter meets none of what is given for later ones, but where neither of
+-- the two is written
 abbrev pub apart_from : (ℕ → Bool) → ℕ → Given → List Param → List Given → Bool
 apart_from writes x g [] gs = true
 apart_from writes x g (q ∷ qs) [] = true
-apart_from writes x g (q ∷ qs) (h ∷ hs) = (not (writes x || writes q.binder.id) || given_apart g h) && apart_from writes x g qs hs
+apart_from writes x g (q ∷ qs) (h ∷ hs) =
+    (not (writes x || writes q.binder.id) || given_apart g h)
+    && apart_from writes x g qs hs
 
 abbrev pub all_apart : (ℕ → Bool) → List Param → List Given → Bool
 all_apart writes [] gs = true
@@ -140,7 +166,8 @@ given_all_apart writes ps (Some gs) = all_apart writes ps gs
 
 -- no two windows of which the callee writes or reduces one have a cell in common
 abbrev pub keeps_apart : Callee → Scene → List Argument → Bool
-keeps_apart callee scene args = given_all_apart callee.writes callee.procedure.params (all_given scene args)
+keeps_apart callee scene args =
+    given_all_apart callee.writes callee.procedure.params (all_given scene args)
 
 -- what is given for the argument of that number; None where there is none, or where it is outside
 abbrev pub given_at : Scene → List Argument → ℕ → Option Given
@@ -165,7 +192,9 @@ run_asserted callee s = where_true (all_hold s.scene callee.procedure.asserts) (
 -- by copies of the windows
 abbrev pub copied_call : Callee → List Argument → State → Option State
 copied_call callee args s =
-    then_do (all_given s.scene args) (λ gs. then_do (entered callee.procedure.params gs s) (λ inner. option_map (returned callee gs s) (run_asserted callee inner)))
+    then_do (all_given s.scene args) (λ gs.
+    then_do (entered callee.procedure.params gs s) (λ inner.
+    option_map (returned callee gs s) (run_asserted callee inner)))
 
 abbrev pub call : Callee → List Argument → State → Option State
 call callee args s = where_true (keeps_apart callee s.scene args) (copied_call callee args s)

@@ -5,13 +5,19 @@ use Rattle.text_phrases.specs.Phrase.{Phrase}
 use Rattle.text_phrases.specs.Sequence.{then, exactly}
 use Rattle.text_phrases.specs.Commas.{listing}
 use Rattle.text_expressions.specs.Values.{name}
-use Rattle.text_expressions.specs.Expression.{Tree, control, datum, FewDimensions, EndsList, FollowsOperand}
+use Rattle.text_expressions.specs.Expression.{Tree, control, datum, FewDimensions, EndsList}
+use Rattle.text_expressions.specs.Expression.{FollowsOperand}
 use Rattle.text_lexer.specs.declared.token.Token.{Token}
-use Rattle.text_lexer.specs.declared.token.Token.TheVariants.{Name, Sign, Word, NewLine, Indent, Dedent}
-use Rattle.text_lexer.specs.declared.token.Sign.TheVariants.{Open, Close, OpenBracket, CloseBracket, Comma, Colon, Dot, Assign, Reduce}
+use Rattle.text_lexer.specs.declared.token.Token.TheVariants.{Name, Sign, Word, NewLine, Indent}
+use Rattle.text_lexer.specs.declared.token.Token.TheVariants.{Dedent}
+use Rattle.text_lexer.specs.declared.token.Sign.TheVariants.{Open, Close, OpenBracket, CloseBracket}
+use Rattle.text_lexer.specs.declared.token.Sign.TheVariants.{Comma, Colon, Dot, Assign, Reduce}
 use Rattle.text_lexer.specs.declared.token.Word.TheVariants as w
-use Rattle.exo_reader.specs.Source.{Coordinate, point, span, Argument, value, window, Statement, pass, branch, loop, allocate, call, configure, assign, reduce, view, Block, end, next, block_of}
-use Rattle.exo_reader.specs.Parts.{Is, IsNot, some_of, spell_enclosed, enclosed, maybe_dims, type_name, maybe_memory}
+use Rattle.exo_reader.specs.Source.{Coordinate, point, span, Argument, value, window, Statement}
+use Rattle.exo_reader.specs.Source.{pass, branch, loop, allocate, call, configure, assign, reduce}
+use Rattle.exo_reader.specs.Source.{view, Block, end, next, block_of}
+use Rattle.exo_reader.specs.Parts.{Is, IsNot, some_of, spell_enclosed, enclosed, maybe_dims}
+use Rattle.exo_reader.specs.Parts.{type_name, maybe_memory}
 
 -- a coordinate of a window
 abbrev pub CoordinateFits : Limits → Coordinate → Type 0
@@ -45,10 +51,12 @@ ArgumentFits P limits (window x cs) = name.Fits limits x × coordinates.Fits lim
 
 abbrev pub spell_argument : Phrase Token Tree → Argument → List Token
 spell_argument P (value e) = P.spell e
-spell_argument P (window x cs) = Name x ∷ Sign OpenBracket ∷ (coordinates.spell cs ++ (Sign CloseBracket ∷ []))
+spell_argument P (window x cs) =
+    Name x ∷ Sign OpenBracket ∷ (coordinates.spell cs ++ (Sign CloseBracket ∷ []))
 
 abbrev pub argument_of : Phrase Token Tree → Phrase Token Argument
-argument_of P = record { Fits = ArgumentFits P; spell = spell_argument P; Follows = FollowsOperand 0 }
+argument_of P =
+    record { Fits = ArgumentFits P; spell = spell_argument P; Follows = FollowsOperand 0 }
 
 -- an argument of a call
 abbrev pub argument : Phrase Token Argument
@@ -71,13 +79,29 @@ indented lines = Sign Colon ∷ NewLine ∷ Indent ∷ (lines ++ (Dedent ∷ [])
 abbrev mutual
   pub spelling : Statement → List Token
   spelling pass = Word w.Pass ∷ NewLine ∷ []
-  spelling (branch c a b) = Word w.If ∷ (control.spell c ++ (indented (spelling_all a) ++ spelling_else b))
-  spelling (loop i low high a) = Word w.For ∷ Name i ∷ Word w.In ∷ Word w.Seq ∷ Sign Open ∷ (control.spell low ++ (Sign Comma ∷ (control.spell high ++ (Sign Close ∷ indented (spelling_all a)))))
-  spelling (allocate x kind ds m) = Name x ∷ Sign Colon ∷ (type_name.spell kind ++ (maybe_dims.spell ds ++ (maybe_memory.spell m ++ (NewLine ∷ []))))
-  spelling (call f list trailing) = Name f ∷ Sign Open ∷ (spell_enclosed argument list trailing ++ (Sign Close ∷ NewLine ∷ []))
-  spelling (configure c f e) = Name c ∷ Sign Dot ∷ Name f ∷ Sign Assign ∷ (control.spell e ++ (NewLine ∷ []))
-  spelling (assign x ds e) = Name x ∷ (maybe_dims.spell ds ++ (Sign Assign ∷ (datum.spell e ++ (NewLine ∷ []))))
-  spelling (reduce x ds e) = Name x ∷ (maybe_dims.spell ds ++ (Sign Reduce ∷ (datum.spell e ++ (NewLine ∷ []))))
+  spelling (branch c a b) =
+      Word w.If ∷ (control.spell c ++ (indented (spelling_all a) ++ spelling_else b))
+  spelling (loop i low high a) =
+      Word w.For ∷ Name i ∷ Word w.In ∷ Word w.Seq ∷ Sign Open
+      ∷ (control.spell low
+      ++ (Sign Comma ∷ (control.spell high
+      ++ (Sign Close ∷ indented (spelling_all a)))))
+  spelling (allocate x kind ds m) =
+      Name x ∷ Sign Colon
+      ∷ (type_name.spell kind
+      ++ (maybe_dims.spell ds
+      ++ (maybe_memory.spell m
+      ++ (NewLine ∷ []))))
+  spelling (call f list trailing) =
+      Name f ∷ Sign Open
+      ∷ (spell_enclosed argument list trailing
+      ++ (Sign Close ∷ NewLine ∷ []))
+  spelling (configure c f e) =
+      Name c ∷ Sign Dot ∷ Name f ∷ Sign Assign ∷ (control.spell e ++ (NewLine ∷ []))
+  spelling (assign x ds e) =
+      Name x ∷ (maybe_dims.spell ds ++ (Sign Assign ∷ (datum.spell e ++ (NewLine ∷ []))))
+  spelling (reduce x ds e) =
+      Name x ∷ (maybe_dims.spell ds ++ (Sign Reduce ∷ (datum.spell e ++ (NewLine ∷ []))))
   spelling (view y x cs) = Name y ∷ Sign Assign ∷ (right.spell (window x cs) ++ (NewLine ∷ []))
 
   pub spelling_all : Block → List Token
@@ -100,22 +124,54 @@ IsSome (next s more) = Unit {0}
 abbrev mutual
   pub StatementFits : Limits → ℕ → Statement → Type 0
   StatementFits limits nesting pass = Unit {0}
-  StatementFits limits nesting (branch c a b) = Nests limits nesting × control.Fits limits c × IsSome a × BlockFits limits (nesting + 1) a × BlockFits limits (nesting + 1) b
-  StatementFits limits nesting (loop i low high a) = Nests limits nesting × name.Fits limits i × control.Fits limits low × control.Fits limits high × IsSome a × BlockFits limits (nesting + 1) a
-  StatementFits limits nesting (allocate x kind ds m) = name.Fits limits x × type_name.Fits limits kind × maybe_dims.Fits limits ds × maybe_memory.Fits limits m
-  StatementFits limits nesting (call f list trailing) = name.Fits limits f × arguments.Fits limits (list, trailing)
-  StatementFits limits nesting (configure c f e) = name.Fits limits c × name.Fits limits f × control.Fits limits e
-  StatementFits limits nesting (assign x ds e) = name.Fits limits x × maybe_dims.Fits limits ds × datum.Fits limits e
-  StatementFits limits nesting (reduce x ds e) = name.Fits limits x × maybe_dims.Fits limits ds × datum.Fits limits e
+  StatementFits limits nesting (branch c a b) =
+      Nests limits nesting
+      × control.Fits limits c
+      × IsSome a
+      × BlockFits limits (nesting + 1) a
+      × BlockFits limits (nesting + 1) b
+  StatementFits limits nesting (loop i low high a) =
+      Nests limits nesting
+      × name.Fits limits i
+      × control.Fits limits low
+      × control.Fits limits high
+      × IsSome a
+      × BlockFits limits (nesting + 1) a
+  StatementFits limits nesting (allocate x kind ds m) =
+      name.Fits limits x
+      × type_name.Fits limits kind
+      × maybe_dims.Fits limits ds
+      × maybe_memory.Fits limits m
+  StatementFits limits nesting (call f list trailing) =
+      name.Fits limits f
+      × arguments.Fits limits (list, trailing)
+  StatementFits limits nesting (configure c f e) =
+      name.Fits limits c
+      × name.Fits limits f
+      × control.Fits limits e
+  StatementFits limits nesting (assign x ds e) =
+      name.Fits limits x
+      × maybe_dims.Fits limits ds
+      × datum.Fits limits e
+  StatementFits limits nesting (reduce x ds e) =
+      name.Fits limits x
+      × maybe_dims.Fits limits ds
+      × datum.Fits limits e
   StatementFits limits nesting (view y x cs) = name.Fits limits y × right.Fits limits (window x cs)
 
   pub BlockFits : Limits → ℕ → Block → Type 0
   BlockFits limits nesting end = Unit {0}
-  BlockFits limits nesting (next s more) = StatementFits limits nesting s × BlockFits limits nesting more
+  BlockFits limits nesting (next s more) =
+      StatementFits limits nesting s
+      × BlockFits limits nesting more
 
 -- a statement in a block of this nesting; an `else` behind it would belong to it
 abbrev pub statement : ℕ → Phrase Token Statement
-statement nesting = record { Fits = λ limits s. StatementFits limits nesting s; spell = spelling; Follows = IsNot (Word w.Else) }
+statement nesting = record {
+  Fits = λ limits s. StatementFits limits nesting s;
+  spell = spelling;
+  Follows = IsNot (Word w.Else);
+}
 
 -- one statement or more of this nesting, and the end of their block
 abbrev pub body : ℕ → Phrase Token (List Statement × (Unit {0}))
@@ -145,7 +201,11 @@ sign_of true = Sign Reduce
 sign_of false = Sign Assign
 
 abbrev pub store : Phrase Token (Bool × Tree)
-store = record { Fits = λ limits p. datum.Fits limits p.1; spell = λ p. sign_of p.0 ∷ (datum.spell p.1 ++ (NewLine ∷ [])); Follows = λ o. Unit {0} }
+store = record {
+  Fits = λ limits p. datum.Fits limits p.1;
+  spell = λ p. sign_of p.0 ∷ (datum.spell p.1 ++ (NewLine ∷ []));
+  Follows = λ o. Unit {0};
+}
 
 abbrev pub stored_by : List ℕ → List Tree → Bool → Tree → Statement
 stored_by x ds true e = reduce x ds e
@@ -163,7 +223,8 @@ IsNoHead (Some (Word w.If)) = ⊥
 IsNoHead (Some (Word w.For)) = ⊥
 IsNoHead other = Unit {0}
 
--- what stands behind the name of a statement begins neither an allocation nor a call nor a write of a field nor an equation
+-- what stands behind the name of a statement begins neither an allocation nor a call nor a write of
+-- a field nor an equation
 abbrev pub BeginsStore : Option Token → Type 0
 BeginsStore (Some (Sign Colon)) = ⊥
 BeginsStore (Some (Sign Open)) = ⊥
