@@ -154,8 +154,8 @@ impl Moving<'_> {
         &self,
         alloc: Global,
         c: &Cond,
-    ) -> Result<Option<Cond>, AllocError>
-        ensures { IfOk result (λ o. option_map condition o
+    ) -> Result<Option<Box<Cond>>, AllocError>
+        ensures { IfOk result (λ o. option_map (λ b. condition b.value) o
             ≡ plain.moved_condition (plain_moving self.now) (condition c.now)) }
     {
         if !self.knows_condition(c) {
@@ -163,7 +163,7 @@ impl Moving<'_> {
         }
         // nothing of what is put is too wide
         match used_condition(alloc, &Putting { puts: self }, c) {
-            Ok(made) => Ok(Some(made)),
+            Ok(made) => Ok(Some(Box::new(alloc, made)?)),
             Err(_) => Err(AllocError),
         }
     }

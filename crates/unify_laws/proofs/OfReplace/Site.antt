@@ -45,8 +45,8 @@ use Rattle.inplace_laws.specs.Inline.{inlined, TakesAll, not_own, MayInline}
 use Rattle.inplace_laws.specs.Uses.{in_block as uses}
 use Rattle.inplace_laws.proofs.Above.{above_law}
 use Rattle.match_laws.specs.Names.{Names, names_of, extents_of}
-use Rattle.match_laws.specs.Matched.{Matched, Arguments, NoMatch, Undetermined, matched, to, all_pairs}
-use Rattle.match_laws.specs.MatchedFits.{given_names, IsMatch}
+use Rattle.match_laws.specs.Matched.{Matched, Arguments, NoMatch, Undetermined, matched, all_pairs}
+use Rattle.match_laws.specs.MatchedFits.{IsMatch}
 use Rattle.match_laws.specs.RenamedCallee.{re_params, re_procedure}
 use Rattle.match_laws.proofs.MatchedFits.{matched_fits}
 use Rattle.match_laws.proofs.RenamedCallee.{same_ids}

@@ -13,7 +13,7 @@ use Rattle.exo_meaning.specs.Scene.{Side, Point, Range, Seen, Scene, then_do, nu
 use Rattle.exo_meaning.specs.Scene.{extents, is_below, whole, where_true}
 use Rattle.exo_meaning.specs.State.{State}
 use Rattle.exo_meaning.specs.Units.{Scope, with_name, plainly, are_controls, is_new, is_param_kind}
-use Rattle.exo_meaning.specs.Units.{are_params, param_sort, scope_of, sort_in, field_kind, are_distinct}
+use Rattle.exo_meaning.specs.Units.{are_params, param_sort, sort_in, field_kind, are_distinct}
 use Rattle.exo_meaning.specs.Unseen.{in_control, in_condition, in_coords}
 use Rattle.meaning_laws.specs.Made as made
 use Rattle.meaning_laws.specs.PlaceFacts.{in_scope}

@@ -1,5 +1,5 @@
 -- The rule that puts a call of a procedure in the place of a block that is matched with its body.
-use Rattle.std.specs.Prelude.{ℕ, ◌==◌, Bool, false, not, ◌&&◌, ◌||◌, if◌then◌else◌, List, []}
+use Rattle.std.specs.Prelude.{ℕ, ◌==◌, Bool, false, not, ◌||◌, if◌then◌else◌, List, []}
 use Rattle.std.specs.Prelude.{◌∷◌, Option, Some, None, slice_get}
 use Rattle.exo_tree.specs.Tree.{Argument, Whole, Window}
 use Rattle.exo_tree.specs.Tree.{Param, Statement, If, For, Call, Block, end, next, Procedure}
