@@ -170,6 +170,7 @@ pub struct Refused {
 
 /// What comes of a change, as a row writes it: `.` where nothing is refused; else the letter of a refusal, and its place. The place is
 /// that of the changed byte where none is written, `+` the byte behind it, `8` column 8 of its line, `9:8` column 8 of line 9.
+/// What another word means says who asks.
 #[derive(Clone, Copy)]
 pub struct Answer<'a> {
     text: &'a str,
@@ -189,6 +190,11 @@ impl<'a> Answer<'a> {
     /// Whether nothing is refused.
     pub fn is_same(self) -> bool {
         self.text == "."
+    }
+
+    /// The answer as it is written.
+    pub fn word(self) -> &'a str {
+        self.text
     }
 
     /// The refusal that comes of the change at that byte, if one does.

@@ -36,6 +36,8 @@ pub struct Case {
     pub status: u16,
     /// How many bytes the standard output takes.
     pub room: usize,
+    /// How many bytes the standard output takes a call, at most.
+    pub pieces: usize,
     /// The numbers of the reads that fail, from 0.
     pub reads: Vec<u64>,
     /// The numbers of the puts to the standard output that fail, from 0.
@@ -45,6 +47,8 @@ pub struct Case {
     pub waits: u64,
     /// How many chunks are decided, where that is told.
     pub enters: Option<u64>,
+    /// The numbers of the puts to the standard error that fail, from 0.
+    pub err_puts: Vec<u64>,
     /// The files, what is wanted, and the changes.
     pub parts: Vec<Part>,
     /// Whether each line is one that a case may have.
@@ -68,10 +72,12 @@ impl Case {
             words: Vec::new(alloc),
             status: 0,
             room: ROOM,
+            pieces: ROOM,
             reads: Vec::new(alloc),
             puts: Vec::new(alloc),
             waits: NONE_WAITS,
             enters: None,
+            err_puts: Vec::new(alloc),
             parts: Vec::new(alloc),
             is_clear: true,
             has_begun: false,
@@ -85,10 +91,12 @@ impl Case {
         self.words.clear();
         self.status = 0;
         self.room = ROOM;
+        self.pieces = ROOM;
         self.reads.clear();
         self.puts.clear();
         self.waits = NONE_WAITS;
         self.enters = None;
+        self.err_puts.clear();
         self.parts.clear();
         self.is_clear = true;
         self.has_begun = true;
@@ -144,10 +152,12 @@ impl Case {
         match key {
             "status" => self.status = number,
             "room" => self.room = number as usize,
+            "pieces" => self.pieces = number as usize,
             "fail read" => self.reads.push(number as u64)?,
             "fail put" => self.puts.push(number as u64)?,
             "waits" => self.waits = number as u64,
             "enters" => self.enters = Some(number as u64),
+            "fail err" => self.err_puts.push(number as u64)?,
             _ => self.is_clear = false,
         }
         Ok(())

@@ -5,20 +5,12 @@
 // `12*S` is the answer `S` at twelve bytes in a row; `/` ends a line of the text, and counts for nothing.
 use crate::case::{Case, Wanted};
 use crate::run::has_left;
-use case_texts::{Answer, Change, Run, Spot};
+use case_texts::{Answer, Change, Refused, Run, Spot};
 use std::alloc::{AllocError, Global};
 use std::thread::Threads;
 
-/// The message that an answer stands for; empty where it stands for none.
-fn message_of(
-    alloc: Global,
-    file: &str,
-    answer: Answer<'_>,
-    spot: Spot,
-) -> Result<String, AllocError> {
-    let Some(refused) = answer.refusal(spot) else {
-        return Ok(String::new(alloc));
-    };
+/// The message of a refusal of a file.
+fn message_of(alloc: Global, file: &str, refused: Refused) -> Result<String, AllocError> {
     let line = refused.line;
     let column = refused.column;
     let kind = refused.kind;
@@ -57,14 +49,28 @@ impl<'a> Sweep<'a> {
         })
     }
 
+    /// The message that an answer stands for; empty where the case has no part of that name.
+    fn message(
+        &self,
+        alloc: Global,
+        answer: Answer<'_>,
+        spot: Spot,
+    ) -> Result<Vec<u8>, AllocError> {
+        if let Some(refused) = answer.refusal(spot) {
+            return Ok(message_of(alloc, self.file, refused)?.into_bytes());
+        }
+        let word = answer.word();
+        let heading = format!(in alloc; "err {word}")?;
+        self.case.part(&heading).unwrap_or(&[]).to_vec(alloc)
+    }
+
     /// What is wanted where an answer is a refusal.
     fn refusal(&self, alloc: Global, answer: Answer<'_>, spot: Spot) -> Result<Wanted, AllocError> {
-        let message = message_of(alloc, self.file, answer, spot)?;
         Ok(Wanted {
             status: 1,
             out: Vec::new(alloc),
             only_end: false,
-            err: message.into_bytes(),
+            err: self.message(alloc, answer, spot)?,
             enters: None,
         })
     }

@@ -1,5 +1,6 @@
 // Runs of the program on a case.
 use crate::case::{Case, ROOM, Wanted};
+use crate::pieces::Pieces;
 use case_gates::Watching;
 use exo_cli::{MemFiles, MemSink, exoc};
 use std::alloc::{AllocError, Global};
@@ -62,6 +63,7 @@ fn is_file(heading: &str) -> bool {
     heading != "out"
         && heading != "out ends"
         && heading != "err"
+        && !heading.starts_with("err ")
         && !heading.starts_with("changes ")
 }
 
@@ -101,8 +103,11 @@ fn run<R: Threads + Sync + AllocGlobal>(
 ) -> Result<Outcome, AllocError> {
     let alloc = rt.alloc();
     let mut files = files_of(alloc, case, first)?;
-    let mut out = MemSink::new(alloc, case.puts.to_vec(alloc)?, case.room)?;
-    let mut err = MemSink::new(alloc, Vec::new(alloc), ROOM)?;
+    let mut out = Pieces {
+        sink: MemSink::new(alloc, case.puts.to_vec(alloc)?, case.room)?,
+        most: case.pieces,
+    };
+    let mut err = MemSink::new(alloc, case.err_puts.to_vec(alloc)?, ROOM)?;
     let gate = Watching::new(case.waits);
     let status = exoc(
         rt,
@@ -115,7 +120,7 @@ fn run<R: Threads + Sync + AllocGlobal>(
     );
     Ok(Outcome {
         status: u16::from(status.number()),
-        out,
+        out: out.sink,
         err,
         entered: gate.entered(),
         gave_up: gate.gave_up(),
