@@ -7,6 +7,7 @@ ghost use Rattle.exo_tree.specs.PlainStatement.{statement};
 ghost use Rattle.exo_tree.specs.PlainProcedure.{procedure};
 ghost use Rattle.c_names.specs.Binders.{binders_in, binders_of, param_binders, all_binders, names_of, called, c_names, name_in};
 
+use crate::globals::Globals;
 use crate::names::c_name;
 use exo_tree::{Binder, Block, Id, Name, Param, Proc, Stmt};
 use std::alloc::{AllocError, Global};
@@ -34,7 +35,7 @@ impl Model for NameTable {
 
 impl NameTable {
     /// The names of the binders of a procedure, beside functions and fields with the names `globals`.
-    pub fn new(alloc: Global, globals: &[Name], p: &Proc) -> Result<NameTable, AllocError>
+    pub fn new(alloc: Global, globals: &Globals<'_>, p: &Proc) -> Result<NameTable, AllocError>
         ensures { IfOk result (λ t. t ≡ c_names globals.now (procedure p.now)) }
     {
         let binders = all_binders(alloc, p)?;

@@ -4,6 +4,7 @@
 
 mod binders;
 mod clash;
+mod globals;
 mod helpers;
 mod names;
 mod set;
@@ -11,6 +12,7 @@ mod words;
 
 pub use binders::NameTable;
 pub use clash::first_clash;
+pub use globals::Globals;
 pub use helpers::{put_helpers, put_margin};
 pub use names::{c_name, is_in};
 pub use words::is_word;

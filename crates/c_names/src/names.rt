@@ -3,6 +3,7 @@ ghost use Rattle.std.specs.Prelude.{◌≡◌, ◌+◌, ◌++◌, suc, length, c
 ghost use Rattle.c_names.specs.Words as words;
 ghost use Rattle.c_names.specs.Names as names;
 
+use crate::globals::Globals;
 use crate::words::{is_own, is_same, is_word};
 use exo_tree::Name;
 use std::alloc::{AllocError, Global};
@@ -20,14 +21,14 @@ pub fn is_in(names: &[Name], x: &str) -> bool
 }
 
 /// Whether no binder may have the name, by the names of functions and fields.
-fn is_reserved(globals: &[Name], x: &str) -> bool
+fn is_reserved(globals: &Globals<'_>, x: &str) -> bool
     ensures { result ≡ names.is_reserved globals.now x.now }
 {
-    is_word(x) || is_in(globals, x)
+    is_word(x) || globals.has(x)
 }
 
 /// Whether a binder is not renamed to it.
-fn is_taken(globals: &[Name], binders: &[Name], x: &str) -> bool
+fn is_taken(globals: &Globals<'_>, binders: &[Name], x: &str) -> bool
     ensures { result ≡ names.is_taken globals.now binders.now x.now }
 {
     is_reserved(globals, x) || is_in(binders, x)
@@ -69,14 +70,19 @@ fn numbered(alloc: Global, x: &str, k: usize) -> Result<Name, AllocError>
 }
 
 /// The name with the least number from 1 on that is not taken.
-fn renamed(alloc: Global, globals: &[Name], binders: &[Name], x: &str) -> Result<Name, AllocError>
+fn renamed(
+    alloc: Global,
+    globals: &Globals<'_>,
+    binders: &[Name],
+    x: &str,
+) -> Result<Name, AllocError>
     ensures { IfOk result
         (λ n. n
         ≡ names.numbered x.now
         (names.first_free (names.is_taken globals.now binders.now) x.now
         (suc (length globals.now + length binders.now)) 1)) }
 {
-    let count = globals.len() + binders.len() + 1;
+    let count = globals.names().len() + binders.len() + 1;
     for k in 0..count {
         let name = numbered(alloc, x, k + 1)?;
         if !is_taken(globals, binders, name.as_str()) {
@@ -91,7 +97,7 @@ fn renamed(alloc: Global, globals: &[Name], binders: &[Name], x: &str) -> Result
 /// `exo_` or is `exo`, with the least number k from 1 on for which that is neither reserved nor a binder's name.
 pub fn c_name(
     alloc: Global,
-    globals: &[Name],
+    globals: &Globals<'_>,
     binders: &[Name],
     x: &Name,
 ) -> Result<Name, AllocError>

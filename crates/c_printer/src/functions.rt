@@ -14,7 +14,7 @@ ghost use Rattle.c_lowering.specs.Naming.{naming_of};
 
 use crate::report::Printed;
 use c_lowering::{Entry, Form, Names, enter, lower_block};
-use c_names::NameTable;
+use c_names::{Globals, NameTable};
 use c_tree::tree::{CBlock, CFunction, CParam, CStruct};
 use exo_tree::{Name, Param, ParamKind, Proc, ProcId, Unit};
 use std::alloc::{AllocError, Global};
@@ -89,7 +89,7 @@ fn lower_body(alloc: Global, names: &Names<'_>, p: &Proc) -> Result<CBlock, Allo
 fn lower_function(
     alloc: Global,
     unit: &Unit,
-    globals: &[Name],
+    globals: &Globals<'_>,
     p: &Proc,
 ) -> Result<CFunction, AllocError>
     ensures { IfOk result (λ f. plain_function f ≡ function_at (program unit.now) globals.now (Some (procedure p.now))) }
@@ -120,7 +120,7 @@ fn no_function(alloc: Global) -> CFunction
 fn lower_printed(
     alloc: Global,
     unit: &Unit,
-    globals: &[Name],
+    globals: &Globals<'_>,
     k: ProcId,
 ) -> Result<CFunction, AllocError>
     ensures { IfOk result (λ f. plain_function f ≡ function_at (program unit.now) globals.now (slice_get unit.now.procs k.0)) }
@@ -138,7 +138,7 @@ fn lower_printed(
 pub(crate) fn lower_functions(
     alloc: Global,
     unit: &Unit,
-    globals: &[Name],
+    globals: &Globals<'_>,
     what: &[Printed],
 ) -> Result<Vec<CFunction>, AllocError>
     ensures { IfOk result (λ v. map plain_function v.items ≡ functions_of (program unit.now) globals.now (map printing what.now)) }

@@ -15,7 +15,7 @@ use crate::globals::{global_names, texts};
 use crate::headers::lower_headers;
 use crate::report::{LowerError, Printed, lower_report};
 use crate::structs::lower_structs;
-use c_names::first_clash;
+use c_names::{Globals, first_clash};
 use c_tree::tree::CUnit;
 use c_widths::laws::widest_is_of_the_unit;
 use c_widths::widest;
@@ -61,7 +61,8 @@ fn lower_file(
 {
     let report = lower_report(alloc, unit, what)?;
     let includes = lower_includes(alloc, unit, what)?;
-    let functions = lower_functions(alloc, unit, globals, what)?;
+    let held = Globals::new(alloc, globals)?;
+    let functions = lower_functions(alloc, unit, &held, what)?;
     let structs = lower_structs(alloc, &functions)?;
     let fields = texts(alloc, fields)?;
     Ok(CUnit {
