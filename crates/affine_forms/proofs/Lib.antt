@@ -9,3 +9,7 @@ pub mod NormalForm
 pub mod Strides
 pub mod LaterExtents
 pub mod FormulaValues
+pub mod Tables
+pub mod KnownRows
+pub mod RowLists
+pub mod Putting

@@ -7,7 +7,8 @@ pub mod Outcomes
 pub mod TermBounds
 pub mod AtomCodes
 pub mod PlainAtoms
-pub mod AtomFalls
+pub mod Tables
+pub mod PlainTables
 pub mod Formulas
 pub mod PlainFormulas
 pub mod Strides

@@ -11,7 +11,7 @@ plain_atom (Variable x) = plain.Variable x.0
 plain_atom (EntryField f kind) = plain.EntryField f.0 (control_kind kind)
 plain_atom (UnknownField f kind path) = plain.UnknownField f.0 (control_kind kind) path
 plain_atom (OpaqueStride x k) = plain.OpaqueStride x.0 k
-plain_atom (Quotient n ts c) = plain.Quotient n ts c
+plain_atom (Quotient q) = plain.Quotient q.constant q.terms q.by
 
 abbrev pub plain_terms : List Weighed → plain.Terms
 plain_terms [] = plain.none

@@ -16,12 +16,12 @@ ghost use Rattle.affine_forms.specs.TermBounds.{is_none, without_term};
 ghost use Rattle.affine_forms.specs.Forms.{is_within, are_within, is_short, are_short};
 ghost use Rattle.affine_forms.specs.PlainAtoms.{plain_atom, plain_terms};
 
+use crate::quotient::Quotient;
 use exo_tree::{Branch, FieldId, Id, Kind, Path, Step};
 use std::alloc::{AllocError, Global};
 use std::marker::Model;
 
 /// What a control value is built of: a part of an expression that is kept as it is.
-#[cycle(terms)]
 #[derive(Drop)]
 pub enum Atom {
     /// A control variable.
@@ -33,11 +33,10 @@ pub enum Atom {
     /// The stride of a dimension of a buffer, where it is no affine form.
     OpaqueStride(Id, u32),
     /// The quotient of a constant and a sum by a literal of at least 1, rounded down.
-    Quotient(i128, Terms, i64),
+    Quotient(Quotient),
 }
 
 /// An atom with its coefficient.
-#[cycle(terms)]
 #[derive(Drop)]
 pub struct Weighed {
     pub coefficient: i128,
@@ -45,7 +44,6 @@ pub struct Weighed {
 }
 
 /// A weighed sum of atoms, in order of first appearance. Its coefficients are at most 2^126 in size.
-#[cycle(terms)]
 #[derive(Drop)]
 pub struct Terms {
     items: Vec<Weighed>,
@@ -54,7 +52,7 @@ pub struct Terms {
 impl Model for Terms {
     ghost use Rattle.std.specs.Prelude.{IsTrue};
     ghost use Rattle.affine_forms.specs.Atoms as plain;
-    ghost use Rattle.affine_forms.specs.AtomCodes.{terms_code, nodes_in};
+    ghost use Rattle.affine_forms.specs.AtomCodes.{terms_code};
     ghost use Rattle.affine_forms.specs.TermBounds.{are_kept};
 
     ghost Value = { plain.Terms };
@@ -66,13 +64,6 @@ impl Model for Terms {
     ghost view = { λ t. plain_terms t.items.items };
 
     ghost invariant = { λ t. IsTrue (are_kept (plain_terms t.items.items)) };
-
-    ghost size = { nodes_in };
-
-    ghost use Rattle.std.proofs.Common.{arith};
-    ghost use Rattle.affine_forms.specs.AtomFalls.{most_le-nodes};
-
-    ghost size_decreases = { λ a h. omega (arith, most_le-nodes a.items.items) };
 }
 
 impl Terms {
@@ -114,7 +105,6 @@ impl Terms {
         &self.items
     }
 
-    #[cycle(duplicate)]
     pub fn duplicate(&self, alloc: Global) -> Result<Terms, AllocError>
         ensures { IfOk result (λ t. t ≡ self.now) }
     {
@@ -129,7 +119,6 @@ impl Terms {
     }
 
     /// Whether the two sums are equal in some order.
-    #[cycle(same)]
     pub fn same(&self, alloc: Global, other: &Terms) -> Result<bool, AllocError>
         ensures { IfOk result (λ b. b ≡ same_terms self.now other.now) }
     {
@@ -143,7 +132,6 @@ impl Terms {
     }
 
     /// Takes the first term of that atom and coefficient out, and says whether there was one.
-    #[cycle(same)]
     fn take_out(
         &mut self,
         alloc: Global,
@@ -172,7 +160,7 @@ impl Terms {
     }
 
     /// Puts a term last.
-    fn push(&mut self, coefficient: i128, atom: Atom) -> Result<(), AllocError>
+    pub(crate) fn push(&mut self, coefficient: i128, atom: Atom) -> Result<(), AllocError>
         requires narrow { IsTrue (is_within (2 ^ 126) coefficient) }
         requires kept { IsTrue (is_kept_atom (plain_atom atom)) }
         ensures { OnOk result (self.new ≡ joined_terms self.old (plain.term coefficient (plain_atom atom) plain.none)) }
@@ -314,7 +302,6 @@ impl Terms {
     }
 
     /// The index of the first term of that atom, and of that coefficient if one is given.
-    #[cycle(same)]
     fn place_of(
         &self,
         alloc: Global,
@@ -369,8 +356,7 @@ fn is_wanted(wanted: Option<i128>, coefficient: i128) -> bool
 }
 
 impl Atom {
-    #[cycle(duplicate)]
-    pub fn duplicate(&self, alloc: Global) -> Result<Atom, AllocError>
+    pub fn duplicate(&self, _alloc: Global) -> Result<Atom, AllocError>
         ensures { IfOk result (λ a. plain_atom a ≡ plain_atom self.now) }
     {
         match self {
@@ -382,12 +368,11 @@ impl Atom {
                 path.duplicate(),
             )),
             Atom::OpaqueStride(x, k) => Ok(Atom::OpaqueStride(*x, *k)),
-            Atom::Quotient(n, terms, c) => Ok(Atom::Quotient(*n, terms.duplicate(alloc)?, *c)),
+            Atom::Quotient(q) => Ok(Atom::Quotient(q.duplicate()?)),
         }
     }
 
     /// Whether two atoms are equal, quotients by their sums in any order.
-    #[cycle(same)]
     pub fn same(&self, alloc: Global, other: &Atom) -> Result<bool, AllocError>
         ensures { IfOk result (λ b. b ≡ same_atom (plain_atom self.now) (plain_atom other.now)) }
     {
@@ -396,15 +381,8 @@ impl Atom {
             Atom::EntryField(f, kind) => Ok(is_entry(other, *f, *kind)),
             Atom::UnknownField(f, kind, path) => Ok(is_unknown(other, *f, *kind, path)),
             Atom::OpaqueStride(x, k) => Ok(is_stride(other, *x, *k)),
-            Atom::Quotient(m, us, d) => match other {
-                Atom::Quotient(n, ts, c) => {
-                    if *m == *n && *d == *c {
-                        let same = us.same(alloc, ts)?;
-                        Ok(same)
-                    } else {
-                        Ok(false)
-                    }
-                }
+            Atom::Quotient(q) => match other {
+                Atom::Quotient(p) => q.same(alloc, p),
                 Atom::Variable(_) => Ok(false),
                 Atom::EntryField(_, _) => Ok(false),
                 Atom::UnknownField(_, _, _) => Ok(false),
@@ -414,7 +392,8 @@ impl Atom {
     }
 }
 
-fn is_variable(a: &Atom, x: Id) -> bool
+/// Whether an atom is that variable.
+pub(crate) fn is_variable(a: &Atom, x: Id) -> bool
     ensures { result ≡ same_atom (plain.Variable x.0) (plain_atom a.now) }
 {
     match a {
@@ -422,11 +401,12 @@ fn is_variable(a: &Atom, x: Id) -> bool
         Atom::EntryField(_, _) => false,
         Atom::UnknownField(_, _, _) => false,
         Atom::OpaqueStride(_, _) => false,
-        Atom::Quotient(_, _, _) => false,
+        Atom::Quotient(_) => false,
     }
 }
 
-fn is_entry(a: &Atom, f: FieldId, kind: Kind) -> bool
+/// Whether an atom is that field at entry.
+pub(crate) fn is_entry(a: &Atom, f: FieldId, kind: Kind) -> bool
     ensures { result ≡ same_atom (plain.EntryField f.0 (control_kind kind)) (plain_atom a.now) }
 {
     match a {
@@ -434,11 +414,12 @@ fn is_entry(a: &Atom, f: FieldId, kind: Kind) -> bool
         Atom::EntryField(g, other) => f.0 == g.0 && is_same_kind(kind, *other),
         Atom::UnknownField(_, _, _) => false,
         Atom::OpaqueStride(_, _) => false,
-        Atom::Quotient(_, _, _) => false,
+        Atom::Quotient(_) => false,
     }
 }
 
-fn is_unknown(a: &Atom, f: FieldId, kind: Kind, path: &Path) -> bool
+/// Whether an atom is that unknown field.
+pub(crate) fn is_unknown(a: &Atom, f: FieldId, kind: Kind, path: &Path) -> bool
     ensures { result ≡ same_atom (plain.UnknownField f.0 (control_kind kind) path.now) (plain_atom a.now) }
 {
     match a {
@@ -447,11 +428,12 @@ fn is_unknown(a: &Atom, f: FieldId, kind: Kind, path: &Path) -> bool
         Atom::UnknownField(g, other, at) => (f.0 == g.0 && is_same_kind(kind, *other))
             && is_same_path(path.as_slice(), at.as_slice()),
         Atom::OpaqueStride(_, _) => false,
-        Atom::Quotient(_, _, _) => false,
+        Atom::Quotient(_) => false,
     }
 }
 
-fn is_stride(a: &Atom, x: Id, k: u32) -> bool
+/// Whether an atom is that stride.
+pub(crate) fn is_stride(a: &Atom, x: Id, k: u32) -> bool
     ensures { result ≡ same_atom (plain.OpaqueStride x.0 k) (plain_atom a.now) }
 {
     match a {
@@ -459,7 +441,7 @@ fn is_stride(a: &Atom, x: Id, k: u32) -> bool
         Atom::EntryField(_, _) => false,
         Atom::UnknownField(_, _, _) => false,
         Atom::OpaqueStride(y, j) => x.0 == y.0 && k == *j,
-        Atom::Quotient(_, _, _) => false,
+        Atom::Quotient(_) => false,
     }
 }
 

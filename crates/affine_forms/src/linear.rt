@@ -10,6 +10,7 @@ ghost use Rattle.affine_forms.specs.Outcomes.{Formed};
 
 use crate::atom::{Atom, Terms, is_short};
 use crate::error::FormError;
+use crate::quotient::Quotient;
 use std::alloc::{AllocError, Global};
 use std::marker::Model;
 
@@ -134,8 +135,8 @@ impl Draft {
         let mut terms = self.terms.divided(alloc, literal)?;
         let rest = self.terms.undivided(alloc, literal)?;
         if !rest.is_empty() {
-            let atom = Atom::Quotient(self.constant.rem_euclid(literal), rest, by);
-            terms.join(alloc, 1, &atom)?;
+            let atom = Quotient::new(alloc, self.constant.rem_euclid(literal), &rest, by)?;
+            terms.join(alloc, 1, &Atom::Quotient(atom))?;
         }
         Ok(terms)
     }

@@ -165,10 +165,11 @@ impl<'a> Gathering<'a> {
             Atom::EntryField(_, kind) => self.state_kind(alloc, *kind, atom),
             Atom::UnknownField(_, kind, _) => self.state_kind(alloc, *kind, atom),
             Atom::OpaqueStride(_, _) => Ok(()),
-            Atom::Quotient(n, terms, by) => {
-                let low = OwnRow::not_above(alloc, *n, terms, *by, atom)?;
+            Atom::Quotient(q) => {
+                let terms = q.terms(alloc)?;
+                let low = OwnRow::not_above(alloc, q.constant(), &terms, q.by(), atom)?;
                 self.state(alloc, Stated::Own(low))?;
-                let high = OwnRow::not_below(alloc, *n, terms, *by, atom)?;
+                let high = OwnRow::not_below(alloc, q.constant(), &terms, q.by(), atom)?;
                 self.state(alloc, Stated::Own(high))
             }
         }
@@ -183,8 +184,8 @@ impl<'a> Gathering<'a> {
         if self.has(alloc, atom)? {
             return Ok(());
         }
-        if let Atom::Quotient(_, terms, _) = atom {
-            self.explain_all(alloc, terms)?;
+        if let Atom::Quotient(q) = atom {
+            self.explain_all(alloc, &q.terms(alloc)?)?;
         }
         self.state_own(alloc, atom)
     }

@@ -15,7 +15,7 @@ pub(crate) fn is_without_quotients(terms: &[Weighed]) -> bool
     ensures { result ≡ plain.is_without_quotients (plain_terms terms.now) }
 {
     for w in terms {
-        if matches!(&w.atom, Atom::Quotient(_, _, _)) {
+        if matches!(&w.atom, Atom::Quotient(_)) {
             return false;
         }
     }
@@ -68,7 +68,7 @@ fn atom_written(alloc: Global, a: &Atom) -> Result<Box<Ctrl>, AllocError>
         Atom::EntryField(f, _) => in_box(alloc, Ctrl::Field(*f)),
         Atom::UnknownField(f, _, _) => in_box(alloc, Ctrl::Field(*f)),
         Atom::OpaqueStride(x, k) => in_box(alloc, Ctrl::Stride(*x, *k)),
-        Atom::Quotient(_, _, _) => Err(AllocError),
+        Atom::Quotient(_) => Err(AllocError),
     }
 }
 

@@ -3,7 +3,8 @@ use Rattle.std.proofs.lemmas.Int.{to_z-of_z}
 use Rattle.std.specs.Int.{w64, w128}
 use Rattle.affine_forms.specs.Atoms.{divided}
 use Rattle.affine_forms.specs.Forms.{is_within, are_within, is_short, are_short}
-use Rattle.affine_forms.specs.TermBounds.{are_distinct, are_present}
+use Rattle.affine_forms.specs.TermBounds.{is_kept_atom, are_distinct, are_present}
+use Rattle.affine_forms.specs.Tables.{atom_of}
 use Rattle.affine_forms.proofs.Distinct.{distinct_undivided, present_undivided}
 use Rattle.affine_forms.proofs.Values.{and_parts}
 use Rattle.affine_forms.proofs.TermWidths.{within_le, within_from_le, fits_within, wider, within_divided, within_undivided, rest_within, within_64, fits_64}
@@ -17,6 +18,18 @@ join-requires-clause-room c =
     let terms = simp to_z-of_z at c.in_ok-terms.ensures in
     ap (are_within (2 ^ 126 - 2 ^ 64)) terms ∙ wider (2 ^ 62) (2 ^ 126 - 2 ^ 64) (divided c.args.by c.self.inside.terms) (omega arith) (within_divided (2 ^ 62) c.args.by c.self.inside.terms c.requires short.1)
 
+pub new-requires : goal.new-requires
+new-requires c =
+    let short = and_parts (is_short c.self.inside.constant) (are_short c.self.inside.terms) c.self.invariant.0 in
+    let fi = fits_within c.self.inside.constant (within_from_le (2 ^ 126) c.self.inside.constant (omega (arith, within_le (2 ^ 62) c.self.inside.constant short.0))) in
+    let f64 = c.ranges.by in
+    let f128 = fits_64 c.args.by f64 in
+    let rest = simp to_z-of_z at c.in_ok-rest.ensures in
+    let number = simp to_z-of_z at c.rem_euclid.ensures.value in
+    let small = ap (is_within (2 ^ 64)) number ∙ rest_within c.self.inside.constant c.args.by c.requires (within_from_le (2 ^ 64) c.args.by (omega (arith, within_le (2 ^ 63) c.args.by (within_64 c.args.by f64)))) in
+    let fr = fits_within c.rem_euclid.result (within_from_le (2 ^ 126) c.rem_euclid.result (omega (arith, within_le (2 ^ 64) c.rem_euclid.result small))) in
+    rw (to_z-of_z w64 c.args.by f64, to_z-of_z w128 c.rem_euclid.result fr) (ap₂ (λ s t. s && t) c.requires (ap₂ (λ s t. s && t) small (ap₂ (λ s t. s && t) (ap are_short rest ∙ within_undivided (2 ^ 62) c.args.by c.self.inside.terms short.1) (ap₂ (λ s t. s && t) (ap are_distinct rest ∙ distinct_undivided c.args.by c.self.inside.terms c.self.invariant.1) (ap are_present rest ∙ present_undivided c.args.by c.self.inside.terms c.requires)))))
+
 pub join-requires-clause-kept : goal.join-requires-clause-kept
 join-requires-clause-kept c =
     let short = and_parts (is_short c.self.inside.constant) (are_short c.self.inside.terms) c.self.invariant.0 in
@@ -27,4 +40,5 @@ join-requires-clause-kept c =
     let number = simp to_z-of_z at c.rem_euclid.ensures.value in
     let small = ap (is_within (2 ^ 64)) number ∙ rest_within c.self.inside.constant c.args.by c.requires (within_from_le (2 ^ 64) c.args.by (omega (arith, within_le (2 ^ 63) c.args.by (within_64 c.args.by f64)))) in
     let fr = fits_within c.rem_euclid.result (within_from_le (2 ^ 126) c.rem_euclid.result (omega (arith, within_le (2 ^ 64) c.rem_euclid.result small))) in
-    rw (to_z-of_z w64 c.args.by f64, to_z-of_z w128 c.rem_euclid.result fr) (ap₂ (λ s t. s && t) c.requires (ap₂ (λ s t. s && t) small (ap₂ (λ s t. s && t) (ap are_short rest ∙ within_undivided (2 ^ 62) c.args.by c.self.inside.terms short.1) (ap₂ (λ s t. s && t) (ap are_distinct rest ∙ distinct_undivided c.args.by c.self.inside.terms c.self.invariant.1) (ap are_present rest ∙ present_undivided c.args.by c.self.inside.terms c.requires)))))
+    let made = simp to_z-of_z at c.in_ok-atom.ensures in
+    ap (λ d. is_kept_atom (atom_of d)) made ∙ (ap₂ (λ s t. s && t) c.requires (ap₂ (λ s t. s && t) small (ap₂ (λ s t. s && t) (ap are_short rest ∙ within_undivided (2 ^ 62) c.args.by c.self.inside.terms short.1) (ap₂ (λ s t. s && t) (ap are_distinct rest ∙ distinct_undivided c.args.by c.self.inside.terms c.self.invariant.1) (ap are_present rest ∙ present_undivided c.args.by c.self.inside.terms c.requires)))))
