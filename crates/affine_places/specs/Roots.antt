@@ -1,8 +1,12 @@
--- Which root each name of a procedure stands for, and over which dimension of the root each coordinate of the name runs.
-use Rattle.std.specs.Prelude.{ℕ, Bool, true, false, ◌&&◌, List, [], ◌∷◌, length, slice_get, if◌then◌else◌, Option, Some, None}
+-- Which root each name of a procedure stands for, and over which dimension of the root each
+-- coordinate of the name runs.
+use Rattle.std.specs.Prelude.{ℕ, Bool, true, false, ◌&&◌, List, [], ◌∷◌, length, slice_get}
+use Rattle.std.specs.Prelude.{if◌then◌else◌, Option, Some, None}
 use Rattle.std.specs.List.{range_with_len}
 use Rattle.exo_tree.specs.Spans.{is_span}
-use Rattle.exo_tree.specs.Tree.{Control, Coord, Statement, Assign, Reduce, Config, Pass, If, For, Alloc, View, Call, Block, end, next, Param, ParamKind, ControlParam, TensorParam, WindowParam, Procedure, Program}
+use Rattle.exo_tree.specs.Tree.{Control, Coord, Statement, Assign, Reduce, Config, Pass, If, For}
+use Rattle.exo_tree.specs.Tree.{Alloc, View, Call, Block, end, next, Param, ParamKind, ControlParam}
+use Rattle.exo_tree.specs.Tree.{TensorParam, WindowParam, Procedure, Program}
 use Rattle.exo_meaning.specs.Scene.{updated}
 use Rattle.exo_meaning.specs.Units.{is_rank}
 use Rattle.affine_forms.specs.Forms.{Allowed}
@@ -13,7 +17,8 @@ pub data Layout : Type 0 where
   Dense : List Control → Layout
   Strided : Layout
 
--- the root of a name, a parameter or an allocation; how its cells lie; and its dimension for each coordinate of the name
+-- the root of a name, a parameter or an allocation; how its cells lie; and its dimension for each
+-- coordinate of the name
 pub record Rooted : Type 0 where
   pub root : ℕ
   pub layout : Layout
@@ -35,8 +40,10 @@ with_root x r roots = updated roots x (Some r)
 
 abbrev pub with_kind : ℕ → ParamKind → Roots → Roots
 with_kind x (ControlParam kind) roots = roots
-with_kind x (TensorParam cell extents memory) roots = with_root x (own_root x (Dense extents) (length extents)) roots
-with_kind x (WindowParam cell extents memory) roots = with_root x (own_root x Strided (length extents)) roots
+with_kind x (TensorParam cell extents memory) roots =
+    with_root x (own_root x (Dense extents) (length extents)) roots
+with_kind x (WindowParam cell extents memory) roots =
+    with_root x (own_root x Strided (length extents)) roots
 
 abbrev pub with_params : List Param → Roots → Roots
 with_params [] roots = roots
@@ -69,7 +76,8 @@ abbrev mutual
   with_statement Pass roots = roots
   with_statement (If c a b) roots = with_block b (with_block a roots)
   with_statement (For i lo hi b) roots = with_block b roots
-  with_statement (Alloc x cell extents memory) roots = with_root x.id (own_root x.id (Dense extents) (length extents)) roots
+  with_statement (Alloc x cell extents memory) roots =
+      with_root x.id (own_root x.id (Dense extents) (length extents)) roots
   with_statement (View w x coords) roots = with_view w.id coords (roots x) roots
   with_statement (Call k args) roots = roots
 

@@ -23,7 +23,12 @@ abbrev layout_code : Coded Layout
 layout_code = code_by (Option (List Control)) (coded_option index_code) extents_of laid same_layout
 
 abbrev rooted_code : Coded Rooted
-rooted_code = code_by (ℕ × (Layout × List ℕ)) (coded× coded_ℕ (coded× layout_code (coded_list coded_ℕ))) (λ r. (r.root, (r.layout, r.dims))) (λ p. record { root = p.0; layout = p.1.0; dims = p.1.1 }) (λ _. refl)
+rooted_code =
+    code_by (ℕ × (Layout × List ℕ))
+    (coded× coded_ℕ (coded× layout_code (coded_list coded_ℕ)))
+    (λ r. (r.root, (r.layout, r.dims)))
+    (λ p. record { root = p.0; layout = p.1.0; dims = p.1.1 })
+    (λ _. refl)
 
 seen-set : IsSet (Option Rooted)
 seen-set = Coded-set (coded_option rooted_code)

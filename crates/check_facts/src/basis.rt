@@ -12,7 +12,8 @@ use affine_places::Roots;
 use config_state::FieldTable;
 use exo_tree::{Proc, Unit};
 
-/// A procedure with its unit: the roots of its names, the fields that each procedure of the unit may write, and how many fields there are.
+/// A procedure with its unit: the roots of its names, the fields that each procedure of the unit
+/// may write, and how many fields there are.
 #[derive(Drop)]
 pub(crate) struct Ground<'w, 'r> {
     pub(crate) unit: &'w Unit,
@@ -20,7 +21,10 @@ pub(crate) struct Ground<'w, 'r> {
     pub(crate) roots: &'w Roots<'r>,
     pub(crate) writes: &'w FieldTable,
     pub(crate) count: u32,
-    pub(crate) ghost roots_are: { roots_in roots.now ≡ roots_of (procedure proc.now) } by { Roots-set (roots_in roots.now) (roots_of (procedure proc.now)) },
-    pub(crate) ghost table: { IsTable count (unit_writes (program unit.now).procedures) writes.now },
+    pub(crate) ghost roots_are: { roots_in roots.now
+        ≡ roots_of (procedure proc.now) } by { Roots-set (roots_in roots.now)
+            (roots_of (procedure proc.now)) },
+    pub(crate) ghost table: { IsTable count (unit_writes (program unit.now).procedures)
+        writes.now },
     pub(crate) ghost counted: { count ≡ length (program unit.now).fields },
 }

@@ -1,4 +1,5 @@
-//! What holds at a place of a procedure: formulas of its parameters, assertions, loops and branches, and what is known of configuration fields.
+//! What holds at a place of a procedure: formulas of its parameters, assertions, loops and
+//! branches, and what is known of configuration fields.
 #![tactic(auto)]
 
 mod after;

@@ -1,5 +1,6 @@
 //! The way to a place.
-ghost use Rattle.std.specs.Prelude.{◌≡◌, ◌≤◌, ◌+◌, ◌∷◌, IsTrue, IsSome, IfOk, OnOk, Option, Some, length, map, zero};
+ghost use Rattle.std.specs.Prelude.{◌≡◌, ◌≤◌, ◌+◌, ◌∷◌, IsTrue, IsSome, IfOk, OnOk, Option, Some};
+ghost use Rattle.std.specs.Prelude.{length, map, zero};
 ghost use Rattle.exo_tree.specs.Tree as tree;
 ghost use Rattle.exo_tree.specs.Tree.{block};
 ghost use Rattle.exo_tree.specs.Branches.{branch_of};
@@ -76,7 +77,8 @@ fn all_after<'a>(
     }
 }
 
-/// From what is known of them before one statement of a branch of the statement at a path, what is known before a later one.
+/// From what is known of them before one statement of a branch of the statement at a path, what is
+/// known before a later one.
 fn pass<'a>(
     basis: &Ground<'_, '_>,
     alloc: Global,
@@ -92,8 +94,13 @@ fn pass<'a>(
     requires rules { IsTrue (block_keeps_rules (block b.now)) }
     requires short { IsTrue (is_short (block b.now)) }
     requires room { length outer.now + levels (block b.now) ≤ 32 }
-    ensures { (first : KnownFields) → SameBelow basis.now.count (known_in known.old) (passed (telling_of basis.now) outer.now (branch_taken branch) zero from (block b.now) first) →
-        OnOk result (SameBelow basis.now.count (known_in known.new) (passed (telling_of basis.now) outer.now (branch_taken branch) zero to (block b.now) first)) }
+    ensures { (first : KnownFields) →
+        SameBelow basis.now.count (known_in known.old)
+        (passed (telling_of basis.now) outer.now (branch_taken branch) zero from (block b.now)
+        first) →
+        OnOk result (SameBelow basis.now.count (known_in known.new)
+        (passed (telling_of basis.now) outer.now (branch_taken branch) zero to (block b.now)
+        first)) }
 {
     for k in from..to {
         let path = path_in(outer, branch, k);
@@ -102,7 +109,8 @@ fn pass<'a>(
     Ok(())
 }
 
-/// Brings the level of a block on to the statement of that index. Where that is another one, what is known inside is forgotten.
+/// Brings the level of a block on to the statement of that index. Where that is another one, what
+/// is known inside is forgotten.
 pub(crate) fn bring<'a>(
     basis: &Ground<'_, '_>,
     alloc: Global,
@@ -173,7 +181,8 @@ fn inside<'a>(
     Ok(copied)
 }
 
-/// The level of a block of the statement at a path, on the way to a step: that of the trail, or one at the head of the block.
+/// The level of a block of the statement at a path, on the way to a step: that of the trail, or one
+/// at the head of the block.
 fn level_inside<'a>(
     basis: &Ground<'_, '_>,
     alloc: Global,
@@ -188,8 +197,12 @@ fn level_inside<'a>(
     ensures branch { IfOk result (λ l. l.branch ≡ step.branch) }
     ensures index { IfOk result (λ l. l.index ≤ step.index) }
     ensures stand { (first : KnownFields) → SameBelow basis.now.count (known_in known.now) first →
-        Stand basis.now path.now (λ t. branch_of t (statement s.now)) (known_inside (telling_of basis.now) path.now (statement s.now) first) (levels_of trail.old) →
-        IfOk result (λ l. Stand basis.now path.now (λ t. branch_of t (statement s.now)) (known_inside (telling_of basis.now) path.now (statement s.now) first) (l ∷ levels_of trail.new)) }
+        Stand basis.now path.now (λ t. branch_of t (statement s.now))
+        (known_inside (telling_of basis.now) path.now (statement s.now) first)
+        (levels_of trail.old) →
+        IfOk result (λ l. Stand basis.now path.now (λ t. branch_of t (statement s.now))
+        (known_inside (telling_of basis.now) path.now (statement s.now) first)
+        (l ∷ levels_of trail.new)) }
 {
     match trail.take(step.branch, step.index) {
         Some(level) => Ok(level),
@@ -201,8 +214,9 @@ fn level_inside<'a>(
     }
 }
 
-/// Goes from the statement of a level down to the statement to which the steps lead: adds the formulas of the loops and
-/// branches on the way, and finds what is known of fields there. The levels on the way come into the trail.
+/// Goes from the statement of a level down to the statement to which the steps lead: adds the
+/// formulas of the loops and branches on the way, and finds what is known of fields there. The
+/// levels on the way come into the trail.
 pub(crate) fn walk<'a>(
     basis: &Ground<'_, '_>,
     alloc: Global,
@@ -217,14 +231,25 @@ pub(crate) fn walk<'a>(
     requires rules { IsTrue (block_keeps_rules (block b.now)) }
     requires short { IsTrue (is_short (block b.now)) }
     requires room { length outer.now + levels (block b.now) ≤ 32 }
-    ensures facts { (first : KnownFields) → StandIn basis.now outer.now (block b.now) first level.entry (levels_of trail.old) →
-        (o : places.Opened) → opened_in 1 (step_to level.entry ∷ map step_taken steps.now) (block b.now) ≡ Some o →
-        Added result basis.now (facts_round (telling_of basis.now) outer.now (branch_taken level.entry.branch) zero o.around o.piece first) context.old context.new }
-    ensures known { (first : KnownFields) → StandIn basis.now outer.now (block b.now) first level.entry (levels_of trail.old) →
-        (o : places.Opened) → opened_in 1 (step_to level.entry ∷ map step_taken steps.now) (block b.now) ≡ Some o →
-        IfOk result (λ facts. facts ≡ facts_from zero basis.now.count (known_at (telling_of basis.now) outer.now (branch_taken level.entry.branch) zero o.around o.piece first)) }
-    ensures stand { (first : KnownFields) → StandIn basis.now outer.now (block b.now) first level.entry (levels_of trail.old) →
-        (blocks : places.Branch → Option tree.Block) → blocks (branch_taken level.entry.branch) ≡ Some (block b.now) → OnOk result (Stand basis.now outer.now blocks first (levels_of trail.new)) }
+    ensures facts { (first : KnownFields) →
+        StandIn basis.now outer.now (block b.now) first level.entry (levels_of trail.old) →
+        (o : places.Opened) →
+        opened_in 1 (step_to level.entry ∷ map step_taken steps.now) (block b.now) ≡ Some o →
+        Added result basis.now
+        (facts_round (telling_of basis.now) outer.now (branch_taken level.entry.branch) zero
+        o.around o.piece first) context.old context.new }
+    ensures known { (first : KnownFields) →
+        StandIn basis.now outer.now (block b.now) first level.entry (levels_of trail.old) →
+        (o : places.Opened) →
+        opened_in 1 (step_to level.entry ∷ map step_taken steps.now) (block b.now) ≡ Some o →
+        IfOk result
+        (λ facts. facts ≡ facts_from zero basis.now.count (known_at (telling_of basis.now) outer.now
+        (branch_taken level.entry.branch) zero o.around o.piece first)) }
+    ensures stand { (first : KnownFields) →
+        StandIn basis.now outer.now (block b.now) first level.entry (levels_of trail.old) →
+        (blocks : places.Branch → Option tree.Block) →
+        blocks (branch_taken level.entry.branch) ≡ Some (block b.now) →
+        OnOk result (Stand basis.now outer.now blocks first (levels_of trail.new)) }
 {
     let Some((next, rest)) = steps.split_first() else {
         let facts = level.known.facts(alloc, basis.count)?;

@@ -1,5 +1,6 @@
 // The way of a compilation, stage by stage.
-ghost use Rattle.std.specs.Prelude.{◌≡◌, ◌≤◌, ◌<◌, IfOk, IfSome, None, length, map, option_map, string_bytes};
+ghost use Rattle.std.specs.Prelude.{◌≡◌, ◌≤◌, ◌<◌, IfOk, IfSome, None, length, map, option_map};
+ghost use Rattle.std.specs.Prelude.{string_bytes};
 ghost use Rattle.exo_tree.specs.PlainUnit.{program};
 ghost use Rattle.exo_meaning.specs.Units.{IsUnit};
 ghost use Rattle.exo_reader.specs.Texts.{ReadsUnit};
@@ -13,7 +14,9 @@ ghost use Rattle.schedule_laws.specs.Versions.Versions.{held_after, version_of};
 ghost use Rattle.schedule_run.specs.PlainVersions.{binding, held, versions};
 ghost use Rattle.schedule_run.specs.declared.why.Why.TheVariants.{Memory};
 ghost use Rattle.compile_stages.specs.Stops as stop;
-ghost use Rattle.compile_stages.specs.Stages.{Checks, Compiles, Displays, IsRan, IsScheduled, IsTyped, Schedules, Stopped, displayed, judged, operator_in, operator_of, shown, stop_at};
+ghost use Rattle.compile_stages.specs.Stages.{Checks, Compiles, Displays, IsRan, IsScheduled};
+ghost use Rattle.compile_stages.specs.Stages.{IsTyped, Schedules, Stopped, displayed, judged};
+ghost use Rattle.compile_stages.specs.Stages.{operator_in, operator_of, shown, stop_at};
 ghost use Rattle.compile_stages.specs.Stopping.{plain, plain_why, schedule_of, stage, typed_of};
 
 use crate::lowering::printed;
@@ -120,7 +123,8 @@ fn read(alloc: Global, text: &[u8]) -> Result<Source, ReadError>
     requires { length text.now ≤ 1048576 }
     ensures reads { ReadsUnit text.now result }
     ensures placed { IfOk result (λ source. IsPlaced source) }
-    ensures formed { IfOk result (λ source. unit_fault (items_of source) ≡ None → IsUnit (unit_of (items_of source))) }
+    ensures formed { IfOk result
+        (λ source. unit_fault (items_of source) ≡ None → IsUnit (unit_of (items_of source))) }
     ensures low { IfOk result (λ source. IsLow (unit_of (items_of source))) }
 {
     read_texts_are_placed();
@@ -151,7 +155,9 @@ fn shown<R: Threads + Sync, G: Gate>(
 
 /// The stop at a unit that is not shown.
 fn not_shown(unit: &Unit, refused: UnitRefused) -> Stop
-    ensures { (c : Checked) → IsRefused refused c → IfSome (plain result) (λ why. judged (typed_of unit.now) c ≡ Stopped why) }
+    ensures { (c : Checked)
+        → IsRefused refused c
+        → IfSome (plain result) (λ why. judged (typed_of unit.now) c ≡ Stopped why) }
 {
     let line = line_of(unit, &refused);
     match refused.why {
@@ -184,7 +190,8 @@ fn ran<R: Threads + Sync, G: Gate>(
 ) -> Result<Session, Stop>
     requires formed { IsUnit (program unit) }
     requires low { IsLow (program unit) }
-    ensures { IfSome (stage versions result) (IsRan (program unit) count (schedule_of schedule.now)) }
+    ensures { IfSome (stage versions result)
+        (IsRan (program unit) count (schedule_of schedule.now)) }
 {
     small_units_have_room();
     let lines = schedule.lines.as_slice();
@@ -197,7 +204,10 @@ fn ran<R: Threads + Sync, G: Gate>(
 /// The stop where a line is refused.
 fn refused_at(alloc: Global, lines: &[Line], refused: Refused) -> Result<Stop, AllocError>
     requires { (refused.why ≡ Memory → ⊥) → refused.index < length lines.now }
-    ensures { IfOk result (λ end. plain end ≡ option_map (stop_at (record { lines = map plain_line lines.now; numbers = map number lines.now }) refused.index) (plain_why refused.why)) }
+    ensures { IfOk result (λ end. plain end ≡ option_map
+        (stop_at
+        (record { lines = map plain_line lines.now; numbers = map number lines.now }) refused.index)
+        (plain_why refused.why)) }
 {
     match refused.why {
         Why::Memory => Ok(Stop::Memory),
@@ -207,7 +217,9 @@ fn refused_at(alloc: Global, lines: &[Line], refused: Refused) -> Result<Stop, A
 
 /// The stop at a line that is refused for this cause.
 fn at_line(alloc: Global, line: &Line, why: Why) -> Result<Stop, AllocError>
-    ensures { IfOk result (λ end. plain end ≡ option_map (stop.AtLine line.now.number (operator_of (plain_line line.now))) (plain_why why)) }
+    ensures { IfOk result (λ end.
+        plain end ≡ option_map (stop.AtLine line.now.number (operator_of (plain_line line.now)))
+        (plain_why why)) }
 {
     let operator = Name::new(alloc, operator_of(&line.statement))?;
     Ok(Stop::AtLine(line.number, operator, why))
@@ -236,7 +248,8 @@ fn operator_in(act: &Act) -> &str
 
 /// What a name holds.
 fn held<'a>(names: &'a [Binding], name: &str) -> Option<&'a Held>
-    ensures { option_map (λ h. held h.now) result ≡ held_after None (map binding names.now) name.now }
+    ensures { option_map (λ h. held h.now) result
+        ≡ held_after None (map binding names.now) name.now }
 {
     let mut found = None;
     for binding in names {
@@ -259,7 +272,8 @@ fn version_of(session: &Session, name: &str) -> Option<ProcId>
 
 /// The text of the version that the name holds.
 fn version_text(alloc: Global, session: &Session, name: &str) -> Result<String, Stop>
-    ensures { IfSome (stage string_bytes result) (λ s. s ≡ displayed name.now (versions session.now)) }
+    ensures { IfSome (stage string_bytes result)
+        (λ s. s ≡ displayed name.now (versions session.now)) }
 {
     match version_of(session, name) {
         Some(k) => Ok(show(alloc, &session.unit, k)?),

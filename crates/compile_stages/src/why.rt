@@ -1,12 +1,14 @@
 // Why a line of a schedule is refused, in the words of messages.
-ghost use Rattle.std.specs.Prelude.{◌≡◌, ◌++◌, ◌∷◌, Some, option_map, IfOk, OnOk, string_bytes, codes, flat_map, map};
+ghost use Rattle.std.specs.Prelude.{◌≡◌, ◌++◌, ◌∷◌, Some, option_map, IfOk, OnOk, string_bytes};
+ghost use Rattle.std.specs.Prelude.{codes, flat_map, map};
 ghost use Rattle.exo_tree.specs.PlainPlace.{step_taken};
 ghost use Rattle.cursor_forward.specs.PlainProposal.{cause_of};
 ghost use Rattle.schedule_run.specs.PlainWhy.{plain_missing};
 ghost use Rattle.schedule_run.specs.PlainWhy as run;
 ghost use Rattle.cursor_forward.specs.PlainProposal.{fault_of};
 ghost use Rattle.compile_stages.specs.Stopping.{plain_why};
-ghost use Rattle.compile_stages.specs.Kinds.{cause_text, fault_text, list_text, missing_text, open_text, path_text, step_text, why_text};
+ghost use Rattle.compile_stages.specs.Kinds.{cause_text, fault_text, list_text, missing_text};
+ghost use Rattle.compile_stages.specs.Kinds.{open_text, path_text, step_text, why_text};
 
 use crate::kinds::verdict_text;
 use affine_forms::FormError;
@@ -19,7 +21,8 @@ use std::alloc::{AllocError, Global};
 
 /// A claim that is not shown, and the word of the verdict on it.
 fn not_shown(alloc: Global, what: &str, word: &str) -> Result<String, AllocError>
-    ensures { IfOk result (λ text. string_bytes text ≡ codes "NotShown " ++ what.now ++ codes " " ++ word.now) }
+    ensures { IfOk result
+        (λ text. string_bytes text ≡ codes "NotShown " ++ what.now ++ codes " " ++ word.now) }
 {
     let mut out = String::from_str(alloc, "NotShown ")?;
     out.push_str(what)?;
@@ -37,7 +40,8 @@ pub(crate) fn open_text(alloc: Global, what: &Text, verdict: Verdict) -> Result<
 
 /// A step of a path.
 fn put_step(alloc: Global, out: &mut String, step: &Step) -> Result<(), AllocError>
-    ensures { OnOk result (string_bytes out.new ≡ string_bytes out.old ++ step_text (step_taken step.now)) }
+    ensures { OnOk result
+        (string_bytes out.new ≡ string_bytes out.old ++ step_text (step_taken step.now)) }
 {
     let index = step.index;
     let text = match step.branch {
@@ -49,7 +53,9 @@ fn put_step(alloc: Global, out: &mut String, step: &Step) -> Result<(), AllocErr
 
 /// The steps of a path behind its first.
 fn put_more(alloc: Global, out: &mut String, steps: &[Step]) -> Result<(), AllocError>
-    ensures { OnOk result (string_bytes out.new ≡ string_bytes out.old ++ flat_map (λ s. codes "." ++ step_text s) (map step_taken steps.now)) }
+    ensures { OnOk result (string_bytes out.new
+        ≡ string_bytes out.old
+        ++ flat_map (λ s. codes "." ++ step_text s) (map step_taken steps.now)) }
 {
     for step in steps {
         out.push_str(".")?;
@@ -87,7 +93,8 @@ fn undetermined(alloc: Global, name: &str) -> Result<String, AllocError>
 
 /// Why a normal form or a list of systems is refused; none for want of memory.
 fn fault_text(alloc: Global, error: FormError) -> Result<String, AllocError>
-    ensures { IfOk result (λ text. option_map fault_text (fault_of error) ≡ Some (string_bytes text)) }
+    ensures { IfOk result
+        (λ text. option_map fault_text (fault_of error) ≡ Some (string_bytes text)) }
 {
     match error {
         FormError::WideNumber => String::from_str(alloc, "WideNumber"),
@@ -100,7 +107,8 @@ fn fault_text(alloc: Global, error: FormError) -> Result<String, AllocError>
 
 /// Why obligations can't be listed; none for want of memory and for what no list is refused for.
 fn list_text(alloc: Global, error: CheckError) -> Result<String, AllocError>
-    ensures { IfOk result (λ text. option_map list_text (run.fault_of error) ≡ Some (string_bytes text)) }
+    ensures { IfOk result
+        (λ text. option_map list_text (run.fault_of error) ≡ Some (string_bytes text)) }
 {
     match error {
         CheckError::TooManyObligations => String::from_str(alloc, "TooManyObligations"),
@@ -115,7 +123,8 @@ fn list_text(alloc: Global, error: CheckError) -> Result<String, AllocError>
 
 /// Why a step is refused; none for want of memory.
 fn cause_text(alloc: Global, cause: &StepError) -> Result<String, AllocError>
-    ensures { IfOk result (λ text. option_map cause_text (cause_of cause.now) ≡ Some (string_bytes text)) }
+    ensures { IfOk result
+        (λ text. option_map cause_text (cause_of cause.now) ≡ Some (string_bytes text)) }
 {
     match cause {
         StepError::WrongShape => String::from_str(alloc, "WrongShape"),
@@ -152,7 +161,8 @@ fn missing_text(missing: Missing) -> &'static str
 
 /// Why a line is refused; none for want of memory.
 pub(crate) fn why_text(alloc: Global, why: &Why) -> Result<String, AllocError>
-    ensures { IfOk result (λ text. option_map why_text (plain_why why.now) ≡ Some (string_bytes text)) }
+    ensures { IfOk result
+        (λ text. option_map why_text (plain_why why.now) ≡ Some (string_bytes text)) }
 {
     match why {
         Why::UnknownOperator => String::from_str(alloc, "UnknownOperator"),

@@ -1,6 +1,8 @@
 -- Cursors: a statement, some statements of one block, or the gap before or after a statement; how
 -- they move in a procedure, and where they go by an edit. No move leads from what is not there.
-use Rattle.std.specs.Prelude.{ℕ, zero, suc, ◌+◌, ◌-◌, ◌^◌, nat_lt, nat_le, Bool, ◌&&◌, if◌then◌else◌, [], ◌∷◌, ◌++◌, length, Option, Some, None, option_map, option_and_then}
+use Rattle.std.specs.Prelude.{ℕ, zero, suc, ◌+◌, ◌-◌, ◌^◌, nat_lt, nat_le, Bool, ◌&&◌}
+use Rattle.std.specs.Prelude.{if◌then◌else◌, [], ◌∷◌, ◌++◌, length, Option, Some, None, option_map}
+use Rattle.std.specs.Prelude.{option_and_then}
 use Rattle.std.specs.Option.{is_some}
 use Rattle.exo_tree.specs.Tree.{Block, statements}
 use Rattle.exo_tree.specs.Places.{Main, Path, same_branch, same_step, statement_at}
@@ -48,7 +50,8 @@ node_at body path = if is_there body path then Some (Node path) else None
 abbrev pub range_at : Block → Path → ℕ → Option Cursor
 range_at body path zero = None
 range_at body path (suc n) =
-    option_and_then (λ last. if is_there body last then Some (Range path (suc n)) else None) (later n path)
+    option_and_then (λ last. if is_there body last then Some (Range path (suc n)) else None)
+    (later n path)
 
 -- ---- moves
 
@@ -60,7 +63,9 @@ pub record Ends : Type 0 where
 abbrev pub ends_at : Block → Path → ℕ → Option Ends
 ends_at body path zero = None
 ends_at body path (suc n) =
-    option_and_then (λ last. if is_there body last then Some (record { first = path; last = last }) else None) (later n path)
+    option_and_then
+    (λ last. if is_there body last then Some (record { first = path; last = last }) else None)
+    (later n path)
 
 -- a gap stands for none
 abbrev pub ends_of : Block → Cursor → Option Ends
@@ -96,7 +101,9 @@ inside path = held (path ++ record { branch = Main; index = 0 } ∷ [])
 -- the statements of a loop, or of the first branch of a condition
 abbrev pub body_of : Block → Cursor → Option Cursor
 body_of body (Node path) =
-    option_and_then (λ b. option_and_then (λ first. whole_of first (length (statements b))) (inside path)) (option_and_then (branch_of Main) (statement_at path body))
+    option_and_then
+    (λ b. option_and_then (λ first. whole_of first (length (statements b))) (inside path))
+    (option_and_then (branch_of Main) (statement_at path body))
 body_of body (Range path count) = None
 body_of body (Gap path side) = None
 
@@ -104,13 +111,15 @@ body_of body (Gap path side) = None
 abbrev pub item_of : Block → ℕ → Cursor → Option Cursor
 item_of body k (Node path) = None
 item_of body k (Range path count) =
-    option_and_then (λ e. if nat_lt k count then option_map Node (later k path) else None) (ends_at body path count)
+    option_and_then (λ e. if nat_lt k count then option_map Node (later k path) else None)
+    (ends_at body path count)
 item_of body k (Gap path side) = None
 
 -- so many statements with some more before them and behind
 abbrev pub grown : Block → ℕ → ℕ → Path → ℕ → Option Cursor
 grown body before after path count =
-    option_and_then (λ first. option_and_then (range_at body first) (word (before + count + after))) (earlier before path)
+    option_and_then (λ first. option_and_then (range_at body first) (word (before + count + after)))
+    (earlier before path)
 
 -- with so many statements more before and so many behind
 abbrev pub expand_of : Block → ℕ → ℕ → Cursor → Option Cursor
@@ -134,7 +143,9 @@ abbrev pub span_of : Path → Path → Option ℕ
 span_of [] last = None
 span_of (f ∷ first) [] = None
 span_of (f ∷ []) (l ∷ []) =
-    if same_branch f.branch l.branch && nat_le f.index l.index then word (suc (l.index - f.index)) else None
+    if same_branch f.branch l.branch && nat_le f.index l.index
+    then word (suc (l.index - f.index))
+    else None
 span_of (f ∷ []) (l ∷ m ∷ last) = None
 span_of (f ∷ g ∷ first) (l ∷ []) = None
 span_of (f ∷ g ∷ first) (l ∷ m ∷ last) =
@@ -146,7 +157,10 @@ abbrev pub forward_by : Move → Cursor → Option Cursor
 forward_by move (Node path) = option_map Node (move path)
 forward_by move (Range path zero) = None
 forward_by move (Range path (suc n)) =
-    option_and_then (λ first. option_and_then (λ last. option_map (Range first) (span_of first last)) (option_and_then move (later n path))) (move path)
+    option_and_then
+    (λ first. option_and_then (λ last. option_map (Range first) (span_of first last))
+    (option_and_then move (later n path)))
+    (move path)
 forward_by move (Gap path side) = option_map (λ to. Gap to side) (move path)
 
 -- by an edit; a place that no path of the program leads to is none

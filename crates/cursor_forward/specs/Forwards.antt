@@ -1,8 +1,11 @@
 -- What makes shifts right: where they take statements, statements of the same kind stand, and no
 -- two go to one place.
-use Rattle.std.specs.Prelude.{◌≡◌, ⊤, ℕ, ◌+◌, ◌-◌, nat_le, nat_lt, Bool, true, false, ◌&&◌, ◌||◌, not, if◌then◌else◌, List, [], ◌∷◌, map, length, Option, Some, None, option_map}
+use Rattle.std.specs.Prelude.{◌≡◌, ⊤, ℕ, ◌+◌, ◌-◌, nat_le, nat_lt, Bool, true, false, ◌&&◌, ◌||◌}
+use Rattle.std.specs.Prelude.{not, if◌then◌else◌, List, [], ◌∷◌, map, length, Option, Some, None}
+use Rattle.std.specs.Prelude.{option_map}
 use Rattle.std.specs.List.{list_all}
-use Rattle.exo_tree.specs.Tree.{Statement, Assign, Reduce, Config, Pass, If, For, Alloc, View, Call, Block, end, next, statements, Procedure}
+use Rattle.exo_tree.specs.Tree.{Statement, Assign, Reduce, Config, Pass, If, For, Alloc, View, Call}
+use Rattle.exo_tree.specs.Tree.{Block, end, next, statements, Procedure}
 use Rattle.exo_tree.specs.Context.{fill}
 use Rattle.exo_tree.specs.Places.{Step, Path, same_branch, same_step, Opened, opened, statement_at}
 use Rattle.cursor_forward.specs.Shifts.{Shift, Move, Edits, move_of}
@@ -10,7 +13,8 @@ use Rattle.cursor_forward.specs.Shifts.{Shift, Move, Edits, move_of}
 -- ---- kinds and bones
 
 pub data StatementKind : Type 0 where
-  Assignment Reduction ConfigWrite NoOperation Conditional Loop Allocation Naming Calling : StatementKind
+  Assignment Reduction ConfigWrite NoOperation Conditional Loop Allocation Naming Calling :
+      StatementKind
 
 abbrev pub kind_of : Statement → StatementKind
 kind_of (Assign x is e) = Assignment
@@ -89,7 +93,8 @@ is_among s m t =
 -- the two ranges of one block have no statement in common
 abbrev pub are_beside : Step → ℕ → Step → ℕ → Bool
 are_beside s m t n =
-    not (same_branch s.branch t.branch) || (nat_le (s.index + m) t.index || nat_le (t.index + n) s.index)
+    not (same_branch s.branch t.branch)
+    || (nat_le (s.index + m) t.index || nat_le (t.index + n) s.index)
 
 -- no path leads to both: to one of so many from the first, or with `whole` below one; nor so from
 -- the second
@@ -104,7 +109,10 @@ apart (s ∷ r ∷ from) m v (t ∷ u ∷ to) n w =
 
 abbrev pub have_apart : Shift → Shift → Bool
 have_apart s t =
-    elim s.to [ None ↦ true | Some p ↦ elim t.to [ None ↦ true | Some q ↦ apart p s.count s.whole q t.count t.whole ] ]
+    elim s.to [
+      | None ↦ true
+      | Some p ↦ elim t.to [ None ↦ true | Some q ↦ apart p s.count s.whole q t.count t.whole ]
+    ]
 
 abbrev pub are_apart : List Shift → Bool
 are_apart [] = true

@@ -1,7 +1,11 @@
 -- The statements that a pattern finds, in preorder.
-use Rattle.std.specs.Prelude.{◌≡◌, ◌≤◌, ⊤, ℕ, suc, ◌==◌, ◌&&◌, Bool, true, false, if◌then◌else◌, List, [], ◌∷◌, ◌++◌, Option, Some, None, option_map, option_and_then, slice_get, length}
+use Rattle.std.specs.Prelude.{◌≡◌, ◌≤◌, ⊤, ℕ, suc, ◌==◌, ◌&&◌, Bool, true, false, if◌then◌else◌}
+use Rattle.std.specs.Prelude.{List, [], ◌∷◌, ◌++◌, Option, Some, None, option_map, option_and_then}
+use Rattle.std.specs.Prelude.{slice_get, length}
 use Rattle.std.specs.Str.{bytes_eq}
-use Rattle.exo_tree.specs.Tree.{Statement, Assign, Reduce, Config, Pass, If, For, Alloc, View, Call, Block, end, next, statements, Param, Procedure, ConfigField, Program}
+use Rattle.exo_tree.specs.Tree.{Statement, Assign, Reduce, Config, Pass, If, For, Alloc, View, Call}
+use Rattle.exo_tree.specs.Tree.{Block, end, next, statements, Param, Procedure, ConfigField}
+use Rattle.exo_tree.specs.Tree.{Program}
 use Rattle.exo_tree.specs.Heights.{height}
 use Rattle.exo_meaning.specs.Units.{is_short, IsUnit}
 use Rattle.exo_tree.specs.Places.{Branch, Main, Else, Path}
@@ -99,7 +103,8 @@ module _ (unit : Program) (w : Pattern) where
     pub matching : Path → Branch → ℕ → Option ℕ → Block → List Path
     matching outer branch n found end = []
     matching outer branch n found (next a b) =
-        (alone (matches unit w found a) (into outer branch n) ++ matching_below (into outer branch n) found a)
+        (alone (matches unit w found a) (into outer branch n)
+        ++ matching_below (into outer branch n) found a)
         ++ matching outer branch (suc n) (found_after w found a) b
 
     pub matching_below : Path → Option ℕ → Statement → List Path

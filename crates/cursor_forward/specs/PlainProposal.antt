@@ -10,7 +10,14 @@ use Rattle.cursor_forward.specs.PlainCursor.{plain_side}
 use Rattle.cursor_forward.specs.Proposals.{Plan}
 use Rattle.cursor_forward.specs.declared.proposal.Proposal.{Proposal}
 use Rattle.cursor_forward.specs.declared.proposal.StepError.{StepError}
-use Rattle.cursor_forward.specs.declared.proposal.StepError.TheVariants.{WrongShape, OutOfScope, NameTaken, LimitPassed, ConfigWrite, ConfigLive, NotIdempotent, Aliased, StrideUsed, NotOnlyReduced, StillUsed, NotDescendant, SharedArgument, NoMatch, Undetermined, Form, Memory}
+use Rattle.cursor_forward.specs.declared.proposal.StepError.TheVariants.{WrongShape, OutOfScope}
+use Rattle.cursor_forward.specs.declared.proposal.StepError.TheVariants.{NameTaken, LimitPassed}
+use Rattle.cursor_forward.specs.declared.proposal.StepError.TheVariants.{ConfigWrite, ConfigLive}
+use Rattle.cursor_forward.specs.declared.proposal.StepError.TheVariants.{NotIdempotent, Aliased}
+use Rattle.cursor_forward.specs.declared.proposal.StepError.TheVariants.{StrideUsed, NotOnlyReduced}
+use Rattle.cursor_forward.specs.declared.proposal.StepError.TheVariants.{StillUsed, NotDescendant}
+use Rattle.cursor_forward.specs.declared.proposal.StepError.TheVariants.{SharedArgument, NoMatch}
+use Rattle.cursor_forward.specs.declared.proposal.StepError.TheVariants.{Undetermined, Form, Memory}
 
 -- None: want of memory
 abbrev pub fault_of : FormError → Option FormFault

@@ -2,7 +2,9 @@
 -- piece, by others; ranges of the piece go to places of the new piece, and what is in no range is
 -- gone. A path in a piece begins with a step into it by Main; the paths of what lies outside of the
 -- piece stay as they are, but for those behind it in its block, which close up.
-use Rattle.std.specs.Prelude.{ℕ, ◌+◌, ◌-◌, ◌^◌, nat_lt, nat_le, Bool, true, false, ◌&&◌, ◌||◌, if◌then◌else◌, List, [], ◌∷◌, length, Option, Some, None, option_map, option_and_then}
+use Rattle.std.specs.Prelude.{ℕ, ◌+◌, ◌-◌, ◌^◌, nat_lt, nat_le, Bool, true, false, ◌&&◌, ◌||◌}
+use Rattle.std.specs.Prelude.{if◌then◌else◌, List, [], ◌∷◌, length, Option, Some, None, option_map}
+use Rattle.std.specs.Prelude.{option_and_then}
 use Rattle.exo_tree.specs.Places.{Main, Path, same_branch, same_step}
 
 -- so many statements of one block, from one on, alone or with all below them, and where the first
@@ -32,7 +34,9 @@ abbrev pub below : Path → Path → Option Below
 below [] path = None
 below (f ∷ from) [] = None
 below (f ∷ []) (s ∷ path) =
-    if same_branch f.branch s.branch && nat_le f.index s.index then Some (record { offset = s.index - f.index; rest = path }) else None
+    if same_branch f.branch s.branch && nat_le f.index s.index
+    then Some (record { offset = s.index - f.index; rest = path })
+    else None
 below (f ∷ g ∷ from) (s ∷ path) = if same_step f s then below (g ∷ from) path else None
 
 -- the statement so many behind the one at a path, and further down
@@ -59,7 +63,10 @@ covered s path =
 abbrev pub follow : List Shift → Move
 follow [] path = None
 follow (s ∷ shifts) path =
-    elim (covered s path) [ None ↦ follow shifts path | Some w ↦ option_and_then (λ to. beyond to w.offset w.rest) s.to ]
+    elim (covered s path) [
+      | None ↦ follow shifts path
+      | Some w ↦ option_and_then (λ to. beyond to w.offset w.rest) s.to
+    ]
 
 -- the path to the statement of that number of a piece
 abbrev pub at_index : ℕ → Path

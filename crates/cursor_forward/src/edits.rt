@@ -1,5 +1,6 @@
 //! Where a step takes the statements of a procedure.
-ghost use Rattle.std.specs.Prelude.{◌≡◌, ◌∷◌, ◌-◌, ◌<◌, ◌≤◌, length, map, option_map, option_and_then, if◌then◌else◌, Some, None};
+ghost use Rattle.std.specs.Prelude.{◌≡◌, ◌∷◌, ◌-◌, ◌<◌, ◌≤◌, length, map, option_map};
+ghost use Rattle.std.specs.Prelude.{option_and_then, if◌then◌else◌, Some, None};
 ghost use Rattle.exo_tree.specs.Places.{Main};
 ghost use Rattle.exo_tree.specs.PlainPlace.{step_taken};
 ghost use Rattle.cursor_forward.specs.PlainShift.{plain_below};
@@ -10,8 +11,9 @@ use crate::shift::{Shifts, way_below};
 use exo_tree::{Branch, Path, Step};
 use std::marker::Model;
 
-/// Where a step takes the statements of a procedure: it replaces so many statements from a place on by so many others, and
-/// shifts say where the replaced ones go. What lies outside stays, but for what is behind in the same block, which closes up.
+/// Where a step takes the statements of a procedure: it replaces so many statements from a place on
+/// by so many others, and shifts say where the replaced ones go. What lies outside stays, but for
+/// what is behind in the same block, which closes up.
 #[derive(Drop)]
 pub struct Edits {
     place: Path,
@@ -41,7 +43,8 @@ impl Edits {
         }
     }
 
-    /// Where the statement at a path goes; None exactly where it is gone, or where no path of the program leads.
+    /// Where the statement at a path goes; None exactly where it is gone, or where no path of the
+    /// program leads.
     pub fn follow(&self, path: &Path) -> Option<Path>
         ensures { result ≡ option_and_then held (move_of self.now path.now) }
     {
@@ -64,7 +67,9 @@ impl Edits {
     /// The same below one of the replaced statements.
     fn within(&self, offset: u32, rest: &[Step]) -> Option<Path>
         requires { length rest.now < 32 }
-        ensures { result ≡ option_and_then held (option_and_then (lifted self.now.place) (follow self.now.shifts (record { branch = Main; index = offset } ∷ map step_taken rest.now))) }
+        ensures { result ≡ option_and_then held (option_and_then (lifted self.now.place)
+            (follow self.now.shifts
+            (record { branch = Main; index = offset } ∷ map step_taken rest.now))) }
     {
         let first = Step {
             branch: Branch::Main,

@@ -1,5 +1,6 @@
 //! The statements that a pattern finds.
-ghost use Rattle.std.specs.Prelude.{◌≡◌, true, ◌-◌, ◌+◌, ◌<◌, ◌≤◌, length, map, option_map, option_and_then, slice_get, IsNone};
+ghost use Rattle.std.specs.Prelude.{◌≡◌, true, ◌-◌, ◌+◌, ◌<◌, ◌≤◌, length, map, option_map};
+ghost use Rattle.std.specs.Prelude.{option_and_then, slice_get, IsNone};
 ghost use Rattle.std.specs.Option.{option_copied};
 ghost use Rattle.std.specs.Str.{bytes_eq};
 ghost use Rattle.exo_tree.specs.Heights.{height, height_below};
@@ -7,7 +8,12 @@ ghost use Rattle.exo_tree.specs.Plain.{binding, statement, procedure, program};
 ghost use Rattle.exo_tree.specs.PlainPlace.{branch_taken, step_taken};
 ghost use Rattle.exo_tree.specs.Tree.{block};
 ghost use Rattle.cursor_patterns.specs.PlainPattern.{plain_pattern};
-ghost use Rattle.cursor_forward.specs.Patterns.{find_of, found_after, is_called, is_meant, is_number, is_loop_called, is_one_loop, is_procedure_called, is_field_called, matches, matching, matching_at, matching_below, are_short, is_short_below, IsSearchable, meant_after, name_in, parameter_called};
+ghost use Rattle.cursor_forward.specs.Patterns.{find_of, found_after, is_called, is_meant};
+ghost use Rattle.cursor_forward.specs.Patterns.{is_number, is_loop_called, is_one_loop};
+ghost use Rattle.cursor_forward.specs.Patterns.{is_procedure_called, is_field_called, matches};
+ghost use Rattle.cursor_forward.specs.Patterns.{matching, matching_at, matching_below, are_short};
+ghost use Rattle.cursor_forward.specs.Patterns.{is_short_below, IsSearchable, meant_after, name_in};
+ghost use Rattle.cursor_forward.specs.Patterns.{parameter_called};
 ghost use Rattle.cursor_forward.specs.PlainCursor.{plain_cursor};
 
 use crate::cursor::Cursor;
@@ -52,7 +58,8 @@ fn parameter_called(x: &Name, params: &Params) -> Option<u32>
     None
 }
 
-/// Whether this is a buffer or view that is asked for: any, or the one of the number that was found.
+/// Whether this is a buffer or view that is asked for: any, or the one of the number that was
+/// found.
 fn is_meant(asked: &Option<Name>, found: Option<u32>, y: Id) -> bool
     ensures { result ≡ is_meant asked.now found y.0 }
 {
@@ -101,9 +108,11 @@ fn is_field_called(c: &Option<Name>, f: &Option<Name>, unit: &Unit, k: FieldId) 
     }
 }
 
-/// Whether the statement itself is one of the pattern, where that number is what the pattern's name stands for.
+/// Whether the statement itself is one of the pattern, where that number is what the pattern's name
+/// stands for.
 fn matches(unit: &Unit, pattern: &Pattern, found: Option<u32>, s: &Stmt) -> bool
-    ensures { result ≡ matches (program unit.now) (plain_pattern pattern.now) found (statement s.now) }
+    ensures { result ≡ matches (program unit.now) (plain_pattern pattern.now) found
+        (statement s.now) }
 {
     match (pattern, s) {
         (Pattern::Loop(i), Stmt::For(j, _, _, _)) => is_called(i, &j.name),
@@ -140,8 +149,9 @@ fn found_after(pattern: &Pattern, found: Option<u32>, s: &Stmt) -> Option<u32>
     }
 }
 
-/// The path of the match of that number in a block, whose statements stand in that branch below a path. `left` counts the
-/// matches down that are passed, and `first` is what the pattern's name stands for as the block begins.
+/// The path of the match of that number in a block, whose statements stand in that branch below a
+/// path. `left` counts the matches down that are passed, and `first` is what the pattern's name
+/// stands for as the block begins.
 #[cycle(find)]
 fn find_in(
     unit: &Unit,
@@ -154,8 +164,14 @@ fn find_in(
 ) -> Option<Path>
     requires fits { length outer.now + height (block b.now) ≤ 32 }
     requires short { are_short (block b.now) ≡ true }
-    ensures found { result ≡ slice_get (matching (program unit.now) (plain_pattern pattern.now) outer.now (branch_taken branch) 0 first (block b.now)) left.old }
-    ensures passed { IsNone result → left.new ≡ left.old - length (matching (program unit.now) (plain_pattern pattern.now) outer.now (branch_taken branch) 0 first (block b.now)) }
+    ensures found { result ≡ slice_get
+        (matching (program unit.now) (plain_pattern pattern.now) outer.now (branch_taken branch) 0
+        first (block b.now)) left.old }
+    ensures passed { IsNone result
+        → left.new
+        ≡ left.old
+        - length (matching (program unit.now) (plain_pattern pattern.now) outer.now
+        (branch_taken branch) 0 first (block b.now)) }
 {
     let mut found = first;
     for k in 0..b.len() {
@@ -185,8 +201,14 @@ fn find_at(
 ) -> Option<Path>
     requires fits { length path + height_below (statement s.now) ≤ 32 }
     requires short { is_short_below (statement s.now) ≡ true }
-    ensures found { result ≡ slice_get (matching_at (program unit.now) (plain_pattern pattern.now) path found (statement s.now)) left.old }
-    ensures passed { IsNone result → left.new ≡ left.old - length (matching_at (program unit.now) (plain_pattern pattern.now) path found (statement s.now)) }
+    ensures found { result ≡ slice_get
+        (matching_at (program unit.now) (plain_pattern pattern.now) path found (statement s.now))
+        left.old }
+    ensures passed { IsNone result
+        → left.new
+        ≡ left.old
+        - length
+        (matching_at (program unit.now) (plain_pattern pattern.now) path found (statement s.now)) }
 {
     if matches(unit, pattern, found, s) {
         if *left == 0 {
@@ -209,8 +231,14 @@ fn find_below(
 ) -> Option<Path>
     requires fits { length path.now + height_below (statement s.now) ≤ 32 }
     requires short { is_short_below (statement s.now) ≡ true }
-    ensures found { result ≡ slice_get (matching_below (program unit.now) (plain_pattern pattern.now) path.now found (statement s.now)) left.old }
-    ensures passed { IsNone result → left.new ≡ left.old - length (matching_below (program unit.now) (plain_pattern pattern.now) path.now found (statement s.now)) }
+    ensures found { result ≡ slice_get
+        (matching_below (program unit.now) (plain_pattern pattern.now) path.now found
+        (statement s.now)) left.old }
+    ensures passed { IsNone result
+        → left.new
+        ≡ left.old
+        - length (matching_below (program unit.now) (plain_pattern pattern.now) path.now found
+        (statement s.now)) }
 {
     match s {
         Stmt::If(_, a, b) => match find_in(unit, pattern, path, Branch::Main, found, a, left) {
@@ -222,10 +250,12 @@ fn find_below(
     }
 }
 
-/// The match of that number in a procedure of the unit, in preorder and counted from 0; None exactly where it has not so many.
+/// The match of that number in a procedure of the unit, in preorder and counted from 0; None
+/// exactly where it has not so many.
 pub fn find(unit: &Unit, p: ProcId, pattern: &Pattern, nth: u32) -> Option<Cursor>
     requires { IsSearchable (slice_get (program unit.now).procedures p.0) }
-    ensures { option_map plain_cursor result ≡ find_of (program unit.now) p.0 (plain_pattern pattern.now) nth }
+    ensures { option_map plain_cursor result
+        ≡ find_of (program unit.now) p.0 (plain_pattern pattern.now) nth }
 {
     let p = unit.procs.get(p.0 as usize)?;
     let found = match name_in(pattern) {

@@ -4,7 +4,9 @@ ghost use Rattle.std.specs.Option.{option_copied};
 ghost use Rattle.exo_tree.specs.Places.{statement_at};
 ghost use Rattle.exo_tree.specs.Tree.{block};
 ghost use Rattle.cursor_forward.specs.Cursors as plain;
-ghost use Rattle.cursor_forward.specs.Cursors.{after_of, before_of, body_of, ends_at, ends_of, expand_of, grown, is_there, item_of, next_of, node_at, parent_of, prev_of, range_at, whole_of};
+ghost use Rattle.cursor_forward.specs.Cursors.{after_of, before_of, body_of, ends_at, ends_of};
+ghost use Rattle.cursor_forward.specs.Cursors.{expand_of, grown, is_there, item_of, next_of};
+ghost use Rattle.cursor_forward.specs.Cursors.{node_at, parent_of, prev_of, range_at, whole_of};
 ghost use Rattle.cursor_forward.specs.PlainCursor.{plain_cursor, plain_ends};
 
 use crate::cursor::{Cursor, Side};
@@ -51,7 +53,8 @@ fn ends_at(p: &Proc, path: &Path, count: u32) -> Option<Ends>
     }
 }
 
-/// The first and the last of the statements that a cursor stands for; None exactly where they are not there. A gap has none.
+/// The first and the last of the statements that a cursor stands for; None exactly where they are
+/// not there. A gap has none.
 fn standing(p: &Proc, c: &Cursor) -> Option<Ends>
     ensures { option_map plain_ends result ≡ ends_of (block p.now.body) (plain_cursor c.now) }
 {
@@ -69,7 +72,8 @@ fn standing(p: &Proc, c: &Cursor) -> Option<Ends>
     }
 }
 
-/// The statement round a cursor; None exactly where the cursor is not there, or stands in the procedure's body.
+/// The statement round a cursor; None exactly where the cursor is not there, or stands in the
+/// procedure's body.
 pub fn parent(p: &Proc, c: &Cursor) -> Option<Cursor>
     ensures { option_map plain_cursor result ≡ parent_of (block p.now.body) (plain_cursor c.now) }
 {
@@ -84,14 +88,16 @@ pub fn parent(p: &Proc, c: &Cursor) -> Option<Cursor>
     Some(Cursor::Node(up))
 }
 
-/// The statement behind a statement, or behind the last one of a block; None exactly where there is none.
+/// The statement behind a statement, or behind the last one of a block; None exactly where there is
+/// none.
 pub fn next(p: &Proc, c: &Cursor) -> Option<Cursor>
     ensures { option_map plain_cursor result ≡ next_of (block p.now.body) (plain_cursor c.now) }
 {
     node_at(p, later(1, &standing(p, c)?.last)?)
 }
 
-/// The statement before a statement, or before the first one of a block; None exactly where there is none.
+/// The statement before a statement, or before the first one of a block; None exactly where there
+/// is none.
 pub fn prev(p: &Proc, c: &Cursor) -> Option<Cursor>
     ensures { option_map plain_cursor result ≡ prev_of (block p.now.body) (plain_cursor c.now) }
 {
@@ -110,7 +116,8 @@ fn whole(path: Path, b: &Block) -> Option<Cursor>
     }
 }
 
-/// The statements of a loop, or of the first branch of an `if`; None exactly of other statements, blocks and gaps.
+/// The statements of a loop, or of the first branch of an `if`; None exactly of other statements,
+/// blocks and gaps.
 pub fn body(p: &Proc, c: &Cursor) -> Option<Cursor>
     ensures { option_map plain_cursor result ≡ body_of (block p.now.body) (plain_cursor c.now) }
 {
@@ -123,7 +130,8 @@ pub fn body(p: &Proc, c: &Cursor) -> Option<Cursor>
     }
 }
 
-/// One of the statements of a block, counted from 0; None exactly where it has not so many, and of statements and gaps.
+/// One of the statements of a block, counted from 0; None exactly where it has not so many, and of
+/// statements and gaps.
 pub fn item(p: &Proc, c: &Cursor, k: u32) -> Option<Cursor>
     ensures { option_map plain_cursor result ≡ item_of (block p.now.body) k (plain_cursor c.now) }
 {
@@ -142,7 +150,8 @@ pub fn item(p: &Proc, c: &Cursor, k: u32) -> Option<Cursor>
 
 /// So many statements from a path on with so many more before them and behind.
 fn grown(p: &Proc, path: &Path, count: u32, before: u32, after: u32) -> Option<Cursor>
-    ensures { option_map plain_cursor result ≡ grown (block p.now.body) before after path.now count }
+    ensures { option_map plain_cursor result
+        ≡ grown (block p.now.body) before after path.now count }
 {
     let first = earlier(before, path)?;
     let total = before.checked_add(count)?.checked_add(after)?;
@@ -161,9 +170,11 @@ fn range_at(p: &Proc, path: Path, count: u32) -> Option<Cursor>
     }
 }
 
-/// A statement or block with so many statements more before it and behind it; None exactly where there are not so many, and of gaps.
+/// A statement or block with so many statements more before it and behind it; None exactly where
+/// there are not so many, and of gaps.
 pub fn expand(p: &Proc, c: &Cursor, before: u32, after: u32) -> Option<Cursor>
-    ensures { option_map plain_cursor result ≡ expand_of (block p.now.body) before after (plain_cursor c.now) }
+    ensures { option_map plain_cursor result
+        ≡ expand_of (block p.now.body) before after (plain_cursor c.now) }
 {
     let ends = standing(p, c)?;
     match c {
@@ -172,7 +183,8 @@ pub fn expand(p: &Proc, c: &Cursor, before: u32, after: u32) -> Option<Cursor>
     }
 }
 
-/// The gap before a statement, or before the first one of a block; None exactly where they are not there, and of gaps.
+/// The gap before a statement, or before the first one of a block; None exactly where they are not
+/// there, and of gaps.
 pub fn before(p: &Proc, c: &Cursor) -> Option<Cursor>
     ensures { option_map plain_cursor result ≡ before_of (block p.now.body) (plain_cursor c.now) }
 {
@@ -180,7 +192,8 @@ pub fn before(p: &Proc, c: &Cursor) -> Option<Cursor>
     Some(Cursor::Gap(ends.first, Side::Before))
 }
 
-/// The gap after a statement, or after the last one of a block; None exactly where they are not there, and of gaps.
+/// The gap after a statement, or after the last one of a block; None exactly where they are not
+/// there, and of gaps.
 pub fn after(p: &Proc, c: &Cursor) -> Option<Cursor>
     ensures { option_map plain_cursor result ≡ after_of (block p.now.body) (plain_cursor c.now) }
 {

@@ -1,5 +1,7 @@
 //! Where a step takes statements, as ranges.
-ghost use Rattle.std.specs.Prelude.{◌≡◌, [], ◌∷◌, ◌++◌, ◌-◌, ◌≤◌, nat_le, ◌&&◌, length, map, option_map, option_and_then, if◌then◌else◌, OnOk, OnErr, Some, None};
+ghost use Rattle.std.specs.Prelude.{◌≡◌, [], ◌∷◌, ◌++◌, ◌-◌, ◌≤◌, nat_le, ◌&&◌, length, map};
+ghost use Rattle.std.specs.Prelude.{option_map, option_and_then, if◌then◌else◌, OnOk, OnErr, Some};
+ghost use Rattle.std.specs.Prelude.{None};
 ghost use Rattle.exo_tree.specs.Places.{same_branch};
 ghost use Rattle.exo_tree.specs.PlainPlace.{branch_taken, step_taken};
 ghost use Rattle.cursor_forward.specs.PlainShift.{plain_shift, plain_below};
@@ -10,9 +12,9 @@ use exo_tree::{Path, Step};
 use std::alloc::{AllocError, Global};
 use std::marker::Model;
 
-/// So many statements of one block of what a step replaces, from one on, and where the first of them goes; with `whole` they
-/// go with all below them, else by themselves. None: they are gone. Paths begin with a step by `Main` into what is replaced,
-/// or into what replaces it.
+/// So many statements of one block of what a step replaces, from one on, and where the first of
+/// them goes; with `whole` they go with all below them, else by themselves. None: they are gone.
+/// Paths begin with a step by `Main` into what is replaced, or into what replaces it.
 #[derive(Drop)]
 pub struct Shift {
     pub from: Path,
@@ -38,7 +40,8 @@ impl Model for Shifts {
     ghost view = { λ l. map plain_shift l.items.items };
 }
 
-/// A path to a statement of a block, from another one's on, or below one: how far behind that it is, and how to go on.
+/// A path to a statement of a block, from another one's on, or below one: how far behind that it
+/// is, and how to go on.
 #[derive(Clone, Copy)]
 pub(crate) struct Below<'a> {
     pub offset: u32,
@@ -47,7 +50,10 @@ pub(crate) struct Below<'a> {
 
 /// How far a step leads behind another one, in the same block.
 fn offset_behind(first: Step, step: Step) -> Option<u32>
-    ensures { result ≡ (if same_branch (branch_taken first.branch) (branch_taken step.branch) && nat_le first.index step.index then Some (step.index - first.index) else None) }
+    ensures { result ≡ (if same_branch (branch_taken first.branch) (branch_taken step.branch)
+        && nat_le first.index step.index
+        then Some (step.index - first.index)
+        else None) }
 {
     if first.branch == step.branch {
         step.index.checked_sub(first.index)
@@ -58,7 +64,8 @@ fn offset_behind(first: Step, step: Step) -> Option<u32>
 
 /// How a path goes on from a statement of the block of another path, from that one's on.
 pub(crate) fn way_below<'a>(from: &[Step], path: &'a [Step]) -> Option<Below<'a>>
-    ensures { option_map plain_below result ≡ below (map step_taken from.now) (map step_taken path.now) }
+    ensures { option_map plain_below result
+        ≡ below (map step_taken from.now) (map step_taken path.now) }
 {
     let (first, more) = from.split_first()?;
     let (step, rest) = path.split_first()?;
@@ -74,9 +81,11 @@ pub(crate) fn way_below<'a>(from: &[Step], path: &'a [Step]) -> Option<Below<'a>
 }
 
 impl Shift {
-    /// How the path goes on from the shift's first statement, if the shift takes this one, or lets it go.
+    /// How the path goes on from the shift's first statement, if the shift takes this one, or lets
+    /// it go.
     fn covered<'a>(&self, path: &'a [Step]) -> Option<Below<'a>>
-        ensures { option_map plain_below result ≡ covered (plain_shift self.now) (map step_taken path.now) }
+        ensures { option_map plain_below result
+            ≡ covered (plain_shift self.now) (map step_taken path.now) }
     {
         let below = way_below(self.from.as_slice(), path)?;
         if below.offset < self.count && (self.whole || below.rest.is_empty()) {

@@ -1,5 +1,6 @@
 // What the program replies, and how it is delivered.
-ghost use Rattle.std.specs.Prelude.{◌≡◌, ◌≢◌, ◌≤◌, ◌⊎◌, IfOk, Some, is_ok, if◌then◌else◌, option_map, string_bytes};
+ghost use Rattle.std.specs.Prelude.{◌≡◌, ◌≢◌, ◌≤◌, ◌⊎◌, IfOk, Some, is_ok, if◌then◌else◌};
+ghost use Rattle.std.specs.Prelude.{option_map, string_bytes};
 ghost use Rattle.cli_outside.specs.Outside.{Rose, with_more, StopsWithin};
 ghost use Rattle.exo_cli.specs.Answer.{answer_of, status_of, for_out, for_err};
 ghost use Rattle.exo_cli.specs.Replies.{plain};
@@ -27,13 +28,19 @@ impl Reply {
     /// Puts the text to `out`, or the message to `err`, and says how that ended.
     pub(crate) fn deliver<O: Sink, E: Sink>(&self, out: &mut O, err: &mut E) -> Status
         ensures status { result ≢ Status.WriteFault → result ≡ status_of (plain self.now) }
-        ensures out { result ≢ Status.WriteFault → O.taken out.new ≡ with_more (O.taken out.old) (for_out (plain self.now)) }
-        ensures err { result ≢ Status.WriteFault → E.taken err.new ≡ with_more (E.taken err.old) (for_err (plain self.now)) }
+        ensures out { result ≢ Status.WriteFault
+            → O.taken out.new ≡ with_more (O.taken out.old) (for_out (plain self.now)) }
+        ensures err { result ≢ Status.WriteFault
+            → E.taken err.new ≡ with_more (E.taken err.old) (for_err (plain self.now)) }
         ensures out_count { O.faults out.old ≤ O.faults out.new }
         ensures err_count { E.faults err.old ≤ E.faults err.new }
         ensures fault { result ≡ Status.WriteFault →
-            (Rose (O.faults out.old) (O.faults out.new) × StopsWithin (O.taken out.old) (O.taken out.new) (for_out (plain self.now)) × (E.taken err.new ≡ E.taken err.old))
-            ⊎ (Rose (E.faults err.old) (E.faults err.new) × StopsWithin (E.taken err.old) (E.taken err.new) (for_err (plain self.now)) × (O.taken out.new ≡ O.taken out.old)) }
+            (Rose (O.faults out.old) (O.faults out.new)
+            × StopsWithin (O.taken out.old) (O.taken out.new) (for_out (plain self.now))
+            × (E.taken err.new ≡ E.taken err.old))
+            ⊎ (Rose (E.faults err.old) (E.faults err.new)
+            × StopsWithin (E.taken err.old) (E.taken err.new) (for_err (plain self.now))
+            × (O.taken out.new ≡ O.taken out.old)) }
     {
         match self {
             Reply::Accepted(text) => status_after(write_all(out, text.as_bytes()), Status::Ok),
@@ -60,7 +67,9 @@ pub(crate) fn replied(
     schedule: &str,
     end: Result<String, Stop>,
 ) -> Result<Reply, AllocError>
-    ensures { IfOk result (λ reply. option_map (answer_of procs.now schedule.now) (stage string_bytes end) ≡ Some (plain reply)) }
+    ensures { IfOk result
+        (λ reply. option_map (answer_of procs.now schedule.now) (stage string_bytes end)
+        ≡ Some (plain reply)) }
 {
     match end {
         Ok(text) => Ok(Reply::Accepted(text)),

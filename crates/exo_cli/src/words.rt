@@ -7,15 +7,16 @@ ghost use Rattle.exo_cli.specs.Asked.{plain};
 
 use generated_texts::number_of;
 
-/// What the program is asked to do; its operands are names of files, the last of `show` that of a version, and that of
-/// `gen` a number.
+/// What the program is asked to do; its operands are names of files, the last of `show` that of a
+/// version, and that of `gen` a number.
 #[derive(Clone, Copy)]
 pub(crate) enum Command<'a> {
     /// Compile the procedures of the first file by the schedule of the second.
     Compile(&'a str, &'a str),
     /// Check the procedures of the file.
     Check(&'a str),
-    /// Show the version that the name holds behind the schedule of the second file on the procedures of the first.
+    /// Show the version that the name holds behind the schedule of the second file on the
+    /// procedures of the first.
     Show(&'a str, &'a str, &'a str),
     /// Compile the texts of the number, and say what they come to.
     Gen(u32),
@@ -36,7 +37,10 @@ fn short_of<'a>(word: &str, operand: &'a str) -> Option<Command<'a>>
 
 /// The command of four words.
 fn compile_of<'a>(word: &str, procs: &'a str, schedule: &'a str) -> Option<Command<'a>>
-    ensures { option_map plain result ≡ (if bytes_eq word.now (codes "compile") && is_operand procs.now && is_operand schedule.now then Some (plainly.Compile procs.now schedule.now) else None) }
+    ensures { option_map plain result
+        ≡ (if bytes_eq word.now (codes "compile") && is_operand procs.now && is_operand schedule.now
+        then Some (plainly.Compile procs.now schedule.now)
+        else None) }
 {
     if word == "compile" && is_operand(procs) && is_operand(schedule) {
         return Some(Command::Compile(procs, schedule));
@@ -46,7 +50,13 @@ fn compile_of<'a>(word: &str, procs: &'a str, schedule: &'a str) -> Option<Comma
 
 /// The command of five words.
 fn show_of<'a>(word: &str, procs: &'a str, schedule: &'a str, name: &'a str) -> Option<Command<'a>>
-    ensures { option_map plain result ≡ (if bytes_eq word.now (codes "show") && is_operand procs.now && is_operand schedule.now && is_operand name.now then Some (plainly.Show procs.now schedule.now name.now) else None) }
+    ensures { option_map plain result
+        ≡ (if bytes_eq word.now (codes "show")
+        && is_operand procs.now
+        && is_operand schedule.now
+        && is_operand name.now
+        then Some (plainly.Show procs.now schedule.now name.now)
+        else None) }
 {
     if word == "show" && is_operand(procs) && is_operand(schedule) && is_operand(name) {
         return Some(Command::Show(procs, schedule, name));

@@ -4,7 +4,8 @@ ghost use Rattle.std.specs.List.{list_all};
 ghost use Rattle.affine_systems.specs.Systems.{cases_stated};
 ghost use Rattle.affine_systems.specs.Outcomes.{IsAnswer};
 ghost use Rattle.exo_effects.specs.Accesses.{access_of};
-ghost use Rattle.exo_effects.specs.Conflicts.{meeting, against, pair_fits, clashing, owed_behind, conflicts_of};
+ghost use Rattle.exo_effects.specs.Conflicts.{meeting, against, pair_fits, clashing, owed_behind};
+ghost use Rattle.exo_effects.specs.Conflicts.{conflicts_of};
 ghost use Rattle.exo_effects.specs.Fresh.{past_formula, past_all};
 ghost use Rattle.exo_effects.specs.PlainUses.{plain_use, plain_uses};
 ghost use Rattle.exo_conflicts.specs.Outcomes.{access_is_low, order_is_low, clashing_with};
@@ -48,8 +49,11 @@ fn met<C: Contexts>(
     requires order { IsTrue (order_is_low order.now) }
     requires first { IsTrue (access_is_low x.now) }
     requires second { IsTrue (access_is_low y.now) }
-    ensures { MadeAnew result (pair_fits (C.fits contexts.now) (plain_order order.now) (access_of (plain_use x.now), access_of (plain_use y.now)))
-        (meeting (C.known contexts.now) (plain_order order.now) (2 ^ 31) (access_of (plain_use x.now)) (access_of (plain_use y.now))) }
+    ensures { MadeAnew result (pair_fits (C.fits contexts.now)
+        (plain_order order.now)
+        (access_of (plain_use x.now), access_of (plain_use y.now)))
+        (meeting (C.known contexts.now) (plain_order order.now) (2 ^ 31)
+        (access_of (plain_use x.now)) (access_of (plain_use y.now))) }
 {
     let mut context = contexts.context(alloc)?;
     put_meeting(alloc, order, x, y, &mut context)?;
@@ -64,7 +68,8 @@ fn systems_where(
     x: &Access<'_>,
     y: &Access<'_>,
 ) -> Result<Vec<Obligation>, FormError>
-    ensures { IsAnswer result (cases_stated context.now) (against (access_of (plain_use x.now), access_of (plain_use y.now))) place.now }
+    ensures { IsAnswer result (cases_stated context.now)
+        (against (access_of (plain_use x.now), access_of (plain_use y.now))) place.now }
 {
     let what = against(alloc, &x.text, &y.text)?;
     systems_together(alloc, context, &what, place)
@@ -207,13 +212,14 @@ fn owed_together<C: Contexts>(
     Ok(out.into_items())
 }
 
-/// The conflicts of two lists of accesses, as obligations: of each access of the first list with each of the second that
-/// touches the same root and clashes with it, that no integers satisfy the context, the bounds and the order of the loops,
-/// what is around each of them, and equal coordinates.
+/// The conflicts of two lists of accesses, as obligations: of each access of the first list with
+/// each of the second that touches the same root and clashes with it, that no integers satisfy the
+/// context, the bounds and the order of the loops, what is around each of them, and equal
+/// coordinates.
 ///
-/// The first pair that is refused is told: `WideNumber` where a number of a normal form that it needs
-/// passes 2^62, of the context, of the loops or of the two accesses, then `TooManyCases`, then
-/// `SystemTooLarge`, then `TooManySystems` where the list so far passes 65,536 obligations or
+/// The first pair that is refused is told: `WideNumber` where a number of a normal form that it
+/// needs passes 2^62, of the context, of the loops or of the two accesses, then `TooManyCases`,
+/// then `SystemTooLarge`, then `TooManySystems` where the list so far passes 65,536 obligations or
 /// 4,194,304 terms. Where no pair clashes no normal form is made.
 pub fn conflicts<C: Contexts>(
     alloc: Global,

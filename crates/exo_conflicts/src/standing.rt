@@ -30,8 +30,10 @@ pub struct Standing<'w, 'r> {
     pub writes: &'w FieldTable,
     pub path: &'w Path,
     pub ghost numbered: { length (program unit.now).fields < 4294967296 },
-    pub ghost roots_are: { roots_in roots.now ≡ roots_of (procedure proc.now) } by { Roots-set (roots_in roots.now) (roots_of (procedure proc.now)) },
-    pub ghost table: { IsTable (length (program unit.now).fields) (unit_writes (program unit.now).procedures) writes.now },
+    pub ghost roots_are: { roots_in roots.now ≡ roots_of (procedure proc.now) } by { Roots-set
+        (roots_in roots.now) (roots_of (procedure proc.now)) },
+    pub ghost table: { IsTable (length (program unit.now).fields)
+        (unit_writes (program unit.now).procedures) writes.now },
     pub ghost rules: { IsTrue (may_be_walked (procedure proc.now)) },
     pub ghost place: { is_place path.now (procedure proc.now) ≡ true },
 }

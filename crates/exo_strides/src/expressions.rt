@@ -4,7 +4,8 @@ ghost use Rattle.exo_tree.specs.PlainControl.{control, condition, coordinate};
 ghost use Rattle.exo_tree.specs.PlainDatum.{datum};
 ghost use Rattle.exo_tree.specs.PlainArgument.{argument};
 ghost use Rattle.exo_modes.specs.Aliases.{roots_in};
-ghost use Rattle.inplace_laws.specs.Uses.{in_control, in_controls, in_condition, in_datum, in_coords};
+ghost use Rattle.inplace_laws.specs.Uses.{in_control, in_controls, in_condition, in_datum};
+ghost use Rattle.inplace_laws.specs.Uses.{in_coords};
 ghost use Rattle.buffer_laws.specs.Stride.Strides.{nothing, names_of, argument_uses, arguments_use};
 
 use exo_modes::{Alias, root};
@@ -30,7 +31,8 @@ pub(crate) fn control_uses(aliases: &[Alias], y: u32, e: &Ctrl) -> bool
 
 /// Whether one of two expressions does.
 fn either_uses(aliases: &[Alias], y: u32, a: &Ctrl, b: &Ctrl) -> bool
-    ensures { result ≡ (in_control nothing (names_of (roots_in aliases.now) y) (control a.now) || in_control nothing (names_of (roots_in aliases.now) y) (control b.now)) }
+    ensures { result ≡ (in_control nothing (names_of (roots_in aliases.now) y) (control a.now)
+        || in_control nothing (names_of (roots_in aliases.now) y) (control b.now)) }
 {
     control_uses(aliases, y, a) || control_uses(aliases, y, b)
 }

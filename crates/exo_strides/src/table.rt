@@ -16,13 +16,15 @@ use exo_modes::{Alias, root};
 use exo_tree::{Block, Id, ParamKind, Params, Proc, ProcId, Unit};
 use std::alloc::{AllocError, Global};
 
-/// Of each procedure of a unit, which parameters' strides it looks at: directly, through a view, or through a call.
+/// Of each procedure of a unit, which parameters' strides it looks at: directly, through a view, or
+/// through a call.
 #[derive(Drop)]
 pub struct StrideTable {
     rows: Vec<Vec<bool>>,
 }
 
-/// Whether the dimensions of a parameter look at a stride of `y`. No name stands for another buffer.
+/// Whether the dimensions of a parameter look at a stride of `y`. No name stands for another
+/// buffer.
 fn kind_sees(aliases: &[Alias], y: u32, kind: &ParamKind) -> bool
     requires { aliases.now ≡ [] }
     ensures { result ≡ kind_uses y (parameter_kind kind.now) }
@@ -50,7 +52,10 @@ fn params_see(aliases: &[Alias], y: u32, params: &Params) -> bool
 /// Whether a procedure looks at strides of its parameter `y`, its assertions left out.
 fn procedure_sees(alloc: Global, above: &Above, y: u32, p: &Proc) -> Result<bool, AllocError>
     requires { AreFirst (rows above.now.rows.now) (program above.now.unit.now) }
-    ensures { IfOk result (λ r. r ≡ sees_strides (first_world (program above.now.unit.now) (length above.now.rows.now)) (first_see (program above.now.unit.now) (length above.now.rows.now)) (procedure p.now) y) }
+    ensures { IfOk result (λ r.
+        r ≡ sees_strides (first_world (program above.now.unit.now) (length above.now.rows.now))
+        (first_see (program above.now.unit.now) (length above.now.rows.now))
+        (procedure p.now) y) }
 {
     let no_aliases = Vec::new(alloc);
     if params_see(&no_aliases, y, &p.params) {
@@ -62,7 +67,11 @@ fn procedure_sees(alloc: Global, above: &Above, y: u32, p: &Proc) -> Result<bool
 /// Of each parameter of a procedure that calls those above, whether it looks at its strides.
 fn row_of(alloc: Global, above: &Above, p: &Proc) -> Result<Vec<bool>, AllocError>
     requires { AreFirst (rows above.now.rows.now) (program above.now.unit.now) }
-    ensures { IfOk result (λ r. r.items ≡ seen_of (sees_strides (first_world (program above.now.unit.now) (length above.now.rows.now)) (first_see (program above.now.unit.now) (length above.now.rows.now)) (procedure p.now)) (procedure p.now).params) }
+    ensures { IfOk result (λ r. r.items ≡ seen_of
+        (sees_strides (first_world (program above.now.unit.now) (length above.now.rows.now))
+        (first_see (program above.now.unit.now) (length above.now.rows.now))
+        (procedure p.now))
+        (procedure p.now).params) }
 {
     let mut row = Vec::new(alloc);
     for x in p.params.as_slice() {
@@ -73,8 +82,8 @@ fn row_of(alloc: Global, above: &Above, p: &Proc) -> Result<Vec<bool>, AllocErro
 }
 
 impl StrideTable {
-    /// The table of the unit's procedures. Each body is gone through once for each parameter, from the first procedure
-    /// on, so that those that it calls are known.
+    /// The table of the unit's procedures. Each body is gone through once for each parameter, from
+    /// the first procedure on, so that those that it calls are known.
     pub fn new(alloc: Global, unit: &Unit) -> Result<StrideTable, AllocError>
         ensures { IfOk result (λ t. table_rows t ≡ seen_rows (program unit.now)) }
     {
@@ -102,7 +111,8 @@ impl StrideTable {
         Ok(())
     }
 
-    /// Whether the procedure looks at strides of its parameter of that index; not where there is no such parameter.
+    /// Whether the procedure looks at strides of its parameter of that index; not where there is no
+    /// such parameter.
     pub fn get(&self, p: ProcId, param: u32) -> bool
         ensures { result ≡ word_at (table_rows self.now) p.0 param }
     {
@@ -113,9 +123,10 @@ impl StrideTable {
     }
 }
 
-/// Whether the procedure `p` looks at strides of its parameter of that index, counted from 0: its body, assertions left
-/// out, uses a stride of it or of a view of it, or passes it, a view of it or a window of either to such a parameter.
-/// It does not where there is no such parameter. The table is that of the unit.
+/// Whether the procedure `p` looks at strides of its parameter of that index, counted from 0: its
+/// body, assertions left out, uses a stride of it or of a view of it, or passes it, a view of it or
+/// a window of either to such a parameter. It does not where there is no such parameter. The table
+/// is that of the unit.
 pub fn stride_seen(unit: &Unit, table: &StrideTable, p: ProcId, param: u32) -> bool
     requires { table_rows table.now ≡ seen_rows (program unit.now) }
     ensures { result ≡ param_seen (program unit.now) p.0 param }
@@ -126,9 +137,9 @@ pub fn stride_seen(unit: &Unit, table: &StrideTable, p: ProcId, param: u32) -> b
     table.get(p, param)
 }
 
-/// Whether a block looks at strides of the buffer that the name `x` stands for: by a stride of a name of it, or by
-/// passing a part of it to a parameter whose strides are seen. The aliases say what the names stand for before the
-/// block. The table is that of the unit.
+/// Whether a block looks at strides of the buffer that the name `x` stands for: by a stride of a
+/// name of it, or by passing a part of it to a parameter whose strides are seen. The aliases say
+/// what the names stand for before the block. The table is that of the unit.
 pub fn is_stride_used(
     unit: &Unit,
     table: &StrideTable,
@@ -137,7 +148,8 @@ pub fn is_stride_used(
     b: &Block,
 ) -> Result<bool, AllocError>
     requires { table_rows table.now ≡ seen_rows (program unit.now) }
-    ensures used { IfOk result (λ r. r ≡ is_used_in (program unit.now) (roots_in aliases.old.items) x.0 (block b.now)) }
+    ensures used { IfOk result
+        (λ r. r ≡ is_used_in (program unit.now) (roots_in aliases.old.items) x.0 (block b.now)) }
     ensures kept { OnOk result (aliases.new.items ≡ aliases.old.items) }
 {
     let above = Above {

@@ -19,8 +19,8 @@ use exo_modes::{Alias, root, set_root};
 use exo_tree::{Arg, Args, Block, ProcId, Stmt, Unit};
 use std::alloc::{AllocError, Global};
 
-/// The procedures that may be called: the first ones of a unit, as many as there are rows. A row says of each
-/// parameter whether its strides are seen.
+/// The procedures that may be called: the first ones of a unit, as many as there are rows. A row
+/// says of each parameter whether its strides are seen.
 #[derive(Clone, Copy)]
 pub(crate) struct Above<'a> {
     pub unit: &'a Unit,
@@ -38,7 +38,8 @@ fn is_part(aliases: &[Alias], y: u32, a: &Arg) -> bool
     }
 }
 
-/// Whether an argument is part of buffer `y`, for a parameter of which it is known whether its strides are seen.
+/// Whether an argument is part of buffer `y`, for a parameter of which it is known whether its
+/// strides are seen.
 fn is_seen(seen: bool, aliases: &[Alias], y: u32, a: &Arg) -> bool
     ensures { result ≡ (seen && is_root (roots_in aliases.now) y (argument a.now)) }
 {
@@ -60,7 +61,8 @@ fn is_passed(row: &[bool], aliases: &[Alias], y: u32, args: &[Arg]) -> bool
 /// Whether a call passes part of buffer `y` to a parameter whose strides are seen.
 fn call_sees(above: &Above, aliases: &[Alias], y: u32, k: ProcId, args: &Args) -> bool
     requires { AreFirst (rows above.now.rows.now) (program above.now.unit.now) }
-    ensures { result ≡ call_sees (program above.now.unit.now) (length above.now.rows.now) k.0 (roots_in aliases.now) y args.now }
+    ensures { result ≡ call_sees (program above.now.unit.now) (length above.now.rows.now) k.0
+        (roots_in aliases.now) y args.now }
 {
     match above.rows.get(k.0 as usize) {
         Some(row) => is_passed(row, aliases, y, args.as_slice()),
@@ -77,9 +79,12 @@ fn statement_sees(
     s: &Stmt,
 ) -> Result<bool, AllocError>
     requires { AreFirst (rows above.now.rows.now) (program above.now.unit.now) }
-    ensures sees { IfOk result (λ r. r ≡ step_sees (program above.now.unit.now) (length above.now.rows.now) (roots_in aliases.old.items) (statement s.now) y) }
-    ensures roots { OnOk result (roots_in aliases.new.items ≡ roots_after (statement s.now) (roots_in aliases.old.items)) }
-    ensures kept { OnOk result (take (length aliases.old.items) aliases.new.items ≡ aliases.old.items) }
+    ensures sees { IfOk result (λ r. r ≡ step_sees (program above.now.unit.now)
+        (length above.now.rows.now) (roots_in aliases.old.items) (statement s.now) y) }
+    ensures roots { OnOk result
+        (roots_in aliases.new.items ≡ roots_after (statement s.now) (roots_in aliases.old.items)) }
+    ensures kept { OnOk result
+        (take (length aliases.old.items) aliases.new.items ≡ aliases.old.items) }
 {
     match s {
         Stmt::Assign(_, list, e) => {
@@ -128,7 +133,8 @@ pub(crate) fn block_sees(
     b: &Block,
 ) -> Result<bool, AllocError>
     requires { AreFirst (rows above.now.rows.now) (program above.now.unit.now) }
-    ensures sees { IfOk result (λ r. r ≡ block_sees (program above.now.unit.now) (length above.now.rows.now) (roots_in aliases.old.items) (block b.now) y) }
+    ensures sees { IfOk result (λ r. r ≡ block_sees (program above.now.unit.now)
+        (length above.now.rows.now) (roots_in aliases.old.items) (block b.now) y) }
     ensures kept { OnOk result (aliases.new.items ≡ aliases.old.items) }
 {
     let known = aliases.len();
@@ -149,7 +155,8 @@ pub(crate) fn body_sees(
     body: &Block,
 ) -> Result<bool, AllocError>
     requires { AreFirst (rows above.now.rows.now) (program above.now.unit.now) }
-    ensures { IfOk result (λ r. r ≡ block_sees (program above.now.unit.now) (length above.now.rows.now) (λ x. x) (block body.now) y) }
+    ensures { IfOk result (λ r. r ≡ block_sees (program above.now.unit.now)
+        (length above.now.rows.now) (λ x. x) (block body.now) y) }
 {
     let mut aliases = Vec::new(alloc);
     let found = block_sees(above, &mut aliases, y, body)?;

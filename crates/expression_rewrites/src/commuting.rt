@@ -37,7 +37,8 @@ fn operation_of(form: &ExprForm) -> Option<Operation>
 /// A right side with the sides of a match exchanged.
 #[tactic(auto, using(crate::proofs::Commuted::commuted_none, crate::proofs::Commuted::commuted_found, crate::proofs::Commuted::commuted_not))]
 fn commuted(alloc: Global, x: &ExprPattern, e: &DataExpr) -> Result<DataExpr, StepError>
-    ensures { Tries datum (tried (commute.commuted (plain_expr_pattern x.now) (datum e.now)) (λ d. d)) result }
+    ensures { Tries datum
+        (tried (commute.commuted (plain_expr_pattern x.now) (datum e.now)) (λ d. d)) result }
 {
     let which = match operation_of(&x.form) {
         None => return Err(StepError::WrongShape),
@@ -55,7 +56,9 @@ fn commuted(alloc: Global, x: &ExprPattern, e: &DataExpr) -> Result<DataExpr, St
 /// An assignment or a reduction with such a right side.
 #[tactic(auto, using(crate::proofs::Commuted::tried_map, crate::proofs::Commuted::tried_as))]
 fn commuted_statement(alloc: Global, x: &ExprPattern, s: &Stmt) -> Result<Stmt, StepError>
-    ensures { Tries statement (tried (commute.commuted_statement (plain_expr_pattern x.now) (statement s.now)) (λ a. a)) result }
+    ensures { Tries statement
+        (tried (commute.commuted_statement (plain_expr_pattern x.now) (statement s.now)) (λ a. a))
+        result }
 {
     match s {
         Stmt::Assign(y, at, e) => {
@@ -78,7 +81,11 @@ fn commuted_block(
     on: &Target<'_>,
     piece: &Piece,
 ) -> Result<Block, StepError>
-    ensures { Tries block (tried (commute.commuted_alone (plain_expr_pattern x.now) (spot_at (target on.now) (plain_piece piece.now)).opened.piece) (λ a. next a end)) result }
+    ensures { Tries block
+        (tried
+        (commute.commuted_alone (plain_expr_pattern x.now)
+        (spot_at (target on.now) (plain_piece piece.now)).opened.piece)
+        (λ a. next a end)) result }
 {
     let Some(s) = on.statement(piece) else {
         return Err(StepError::WrongShape);
@@ -87,8 +94,9 @@ fn commuted_block(
     Ok(Block::single(alloc, made)?)
 }
 
-/// The step that exchanges the sides of a sum or product on the right of an assignment or a reduction. `WrongShape` where
-/// another statement or none stands there, where the pattern is for no sum and no product, or has no match.
+/// The step that exchanges the sides of a sum or product on the right of an assignment or a
+/// reduction. `WrongShape` where another statement or none stands there, where the pattern is for
+/// no sum and no product, or has no match.
 #[derive(Drop)]
 pub struct Commuting<'a> {
     /// Which one, among those of the right side.

@@ -28,7 +28,8 @@ use tree_mentions::in_block;
 
 /// Whether the body of a loop mentions its variable.
 pub(crate) fn has_variable(l: &LoopAt<'_>) -> bool
-    ensures { result ≡ unseen.in_block (λ x. x == (plain_loop l.now).binder.id) (plain_loop l.now).body }
+    ensures { result ≡ unseen.in_block (λ x. x == (plain_loop l.now).binder.id)
+        (plain_loop l.now).body }
 {
     in_block(&Alone { id: l.binder.id }, l.body, 0)
 }
@@ -43,9 +44,11 @@ fn where_it_lacks<'a>(l: LoopAt<'a>) -> Option<LoopAt<'a>>
     Some(l)
 }
 
-/// The loop that is all of a piece and whose body lacks its variable; None exactly where there is none.
+/// The loop that is all of a piece and whose body lacks its variable; None exactly where there is
+/// none.
 pub(crate) fn removable_at<'a>(on: &Target<'a>, piece: &Piece) -> Option<LoopAt<'a>>
-    ensures { option_map plain_loop result ≡ plain.removable (spot_at (target on.now) (plain_piece piece.now)).opened.piece }
+    ensures { option_map plain_loop result
+        ≡ plain.removable (spot_at (target on.now) (plain_piece piece.now)).opened.piece }
 {
     match loop_at(on, piece) {
         None => None,
@@ -61,7 +64,9 @@ fn sees_own_field(
     b: &Block,
 ) -> Result<bool, AllocError>
     requires { IsWrittenTable (program unit.now) writes.now }
-    ensures { IfOk result (λ r. r ≡ some_field (program unit.now).fields (λ f. written_in (program unit.now) (block b.now) f && read_in (program unit.now) (block b.now) f)) }
+    ensures { IfOk result (λ r. r ≡ some_field (program unit.now).fields
+        (λ f. written_in (program unit.now) (block b.now) f
+        && read_in (program unit.now) (block b.now) f)) }
 {
     let written = may_write(alloc, unit, writes, b)?;
     if !is_some(&written) {
@@ -71,8 +76,8 @@ fn sees_own_field(
     Ok(have_common(&written, &read))
 }
 
-/// Whether a block in the place of a piece reduces into a buffer from outside, or reads one that it may write; calls
-/// included.
+/// Whether a block in the place of a piece reduces into a buffer from outside, or reads one that it
+/// may write; calls included.
 fn sees_outside(
     alloc: Global,
     on: &Target<'_>,
@@ -80,7 +85,10 @@ fn sees_outside(
     b: &Block,
 ) -> Result<bool, AllocError>
     requires { HasTables on.now }
-    ensures { IfOk result (λ r. r ≡ seen.sees_own_root (program on.now.unit.now) (procedure on.now.proc.now) (around_of (opened piece.now.count piece.now.path (procedure on.now.proc.now).body)) (block b.now)) }
+    ensures { IfOk result (λ r. r ≡ seen.sees_own_root (program on.now.unit.now)
+        (procedure on.now.proc.now)
+        (around_of (opened piece.now.count piece.now.path (procedure on.now.proc.now).body))
+        (block b.now)) }
 {
     let found = sees_own_root(
         alloc,
@@ -94,8 +102,8 @@ fn sees_outside(
     Ok(found)
 }
 
-/// Whether the body of the loop of a piece sees what it does: it reduces into a buffer from outside, or reads a buffer from
-/// outside, or a field, that it may write; calls included.
+/// Whether the body of the loop of a piece sees what it does: it reduces into a buffer from
+/// outside, or reads a buffer from outside, or a field, that it may write; calls included.
 fn sees_own(
     alloc: Global,
     on: &Target<'_>,
@@ -103,7 +111,8 @@ fn sees_own(
     l: &LoopAt<'_>,
 ) -> Result<bool, AllocError>
     requires { HasTables on.now }
-    ensures { IfOk result (λ r. r ≡ plain.sees_own (spot_at (target on.now) (plain_piece piece.now)) (plain_loop l.now)) }
+    ensures { IfOk result (λ r.
+        r ≡ plain.sees_own (spot_at (target on.now) (plain_piece piece.now)) (plain_loop l.now)) }
 {
     let root = sees_outside(alloc, on, piece, l.body)?;
     let field = sees_own_field(alloc, on.unit, on.writes, l.body)?;
@@ -118,7 +127,9 @@ pub(crate) fn unless_it_sees_own(
     l: &LoopAt<'_>,
 ) -> Result<(), StepError>
     requires { HasTables on.now }
-    ensures { Refuses (plain.remove_refusal (spot_at (target on.now) (plain_piece piece.now)) (Some (plain_loop l.now))) result }
+    ensures { Refuses
+        (plain.remove_refusal (spot_at (target on.now) (plain_piece piece.now))
+        (Some (plain_loop l.now))) result }
 {
     if sees_own(alloc, on, piece, l)? {
         return Err(StepError::NotIdempotent);

@@ -1,5 +1,6 @@
 //! What may go outside of what stands round it, and what is made of both.
-ghost use Rattle.std.specs.Prelude.{◌≡◌, ◌==◌, ◌&&◌, ◌++◌, option_map, option_and_then, Some, IfOk, OnOk, length};
+ghost use Rattle.std.specs.Prelude.{◌≡◌, ◌==◌, ◌&&◌, ◌++◌, option_map, option_and_then, Some, IfOk};
+ghost use Rattle.std.specs.Prelude.{OnOk, length};
 ghost use Rattle.exo_tree.specs.Tree as tree;
 ghost use Rattle.exo_tree.specs.Tree.{block, statements};
 ghost use Rattle.exo_tree.specs.PlainControl.{condition};
@@ -54,7 +55,8 @@ const OTHER: Step = Step {
 
 /// Whether a condition mentions the variable of a loop.
 fn mentions_variable(alloc: Global, l: &LoopAt<'_>, c: &Cond) -> Result<bool, AllocError>
-    ensures { IfOk result (λ t. t ≡ unseen.in_condition (λ x. x == (plain_loop l.now).binder.id) (condition c.now)) }
+    ensures { IfOk result
+        (λ t. t ≡ unseen.in_condition (λ x. x == (plain_loop l.now).binder.id) (condition c.now)) }
 {
     let test = Arg::Cond(c.duplicate(alloc)?);
     Ok(in_argument(&Alone { id: l.binder.id }, &test))
@@ -63,7 +65,9 @@ fn mentions_variable(alloc: Global, l: &LoopAt<'_>, c: &Cond) -> Result<bool, Al
 /// A condition, where it has no `else`.
 #[tactic(auto, using(crate::proofs::Lifted::alone_there, crate::proofs::Lifted::other_there))]
 fn one_branch(k: ForkAt<'_>) -> Option<ForkAt<'_>>
-    ensures { option_map plain_fork result ≡ plain.one_branch (plain_fork k.entry).test (plain_fork k.entry).main (plain_fork k.entry).other }
+    ensures { option_map plain_fork result
+        ≡ plain.one_branch (plain_fork k.entry).test (plain_fork k.entry).main
+        (plain_fork k.entry).other }
 {
     if k.other.len() != 0 {
         return None;
@@ -73,7 +77,8 @@ fn one_branch(k: ForkAt<'_>) -> Option<ForkAt<'_>>
 
 /// A loop, or a condition without `else`, in a branch.
 fn in_only_branch<'a>(c: &'a Cond, s: &'a Stmt) -> Option<LiftableAt<'a>>
-    ensures { option_map plain_lifting result ≡ plain.in_only_branch (condition c.now) (statement s.now) }
+    ensures { option_map plain_lifting result
+        ≡ plain.in_only_branch (condition c.now) (statement s.now) }
 {
     match s {
         Stmt::If(test, main, other) => {
@@ -95,7 +100,11 @@ fn in_only_branch<'a>(c: &'a Cond, s: &'a Stmt) -> Option<LiftableAt<'a>>
 
 /// What goes out of a condition.
 fn in_fork(k: ForkAt<'_>) -> Option<LiftableAt<'_>>
-    ensures { option_map plain_lifting result ≡ option_and_then (λ j. option_and_then (plain.in_only_branch (plain_fork k.entry).test) (alone_in j.main)) (plain.one_branch (plain_fork k.entry).test (plain_fork k.entry).main (plain_fork k.entry).other) }
+    ensures { option_map plain_lifting result
+        ≡ option_and_then
+        (λ j. option_and_then (plain.in_only_branch (plain_fork k.entry).test) (alone_in j.main))
+        (plain.one_branch (plain_fork k.entry).test (plain_fork k.entry).main
+        (plain_fork k.entry).other) }
 {
     let test = k.test;
     let only = one_branch(k)?;
@@ -104,7 +113,9 @@ fn in_fork(k: ForkAt<'_>) -> Option<LiftableAt<'_>>
 
 /// What goes out of a loop.
 fn in_loop<'a>(alloc: Global, l: LoopAt<'a>) -> Result<Option<LiftableAt<'a>>, AllocError>
-    ensures { IfOk result (λ x. option_map plain_lifting x ≡ option_and_then (plain.fork_in_loop (plain_loop l.entry)) (alone_in (plain_loop l.entry).body)) }
+    ensures { IfOk result (λ x. option_map plain_lifting x
+        ≡ option_and_then (plain.fork_in_loop (plain_loop l.entry))
+        (alone_in (plain_loop l.entry).body)) }
 {
     let Some(s) = only_statement(l.body) else {
         return Ok(None);
@@ -137,13 +148,15 @@ fn liftable_in(alloc: Global, s: &Stmt) -> Result<Option<LiftableAt<'_>>, AllocE
     }
 }
 
-/// What goes out of the statement that is all of a piece; None exactly where nothing does, or it is not one statement.
+/// What goes out of the statement that is all of a piece; None exactly where nothing does, or it is
+/// not one statement.
 pub(crate) fn liftable_at<'a>(
     alloc: Global,
     on: &Target<'a>,
     piece: &Piece,
 ) -> Result<Option<LiftableAt<'a>>, AllocError>
-    ensures { IfOk result (λ x. option_map plain_lifting x ≡ plain.lifting_of (spot_at (target on.now) (plain_piece piece.now)).opened.piece) }
+    ensures { IfOk result (λ x. option_map plain_lifting x
+        ≡ plain.lifting_of (spot_at (target on.now) (plain_piece piece.now)).opened.piece) }
 {
     match on.statement(piece) {
         None => Ok(None),
@@ -153,14 +166,16 @@ pub(crate) fn liftable_at<'a>(
 
 /// A condition alone in a block.
 fn only_branch(alloc: Global, test: &Cond, main: Block, other: Block) -> Result<Block, AllocError>
-    ensures { IfOk result (λ b. block b ≡ branches.only_branch (condition test.now) (block main) (block other)) }
+    ensures { IfOk result
+        (λ b. block b ≡ branches.only_branch (condition test.now) (block main) (block other)) }
 {
     Block::single(alloc, Stmt::If(test.duplicate(alloc)?, main, other))
 }
 
 /// A condition without `else` alone in a block.
 fn only_main(alloc: Global, test: &Cond, main: &Block) -> Result<Block, AllocError>
-    ensures { IfOk result (λ b. block b ≡ branches.only_branch (condition test.now) (block main.now) tree.end) }
+    ensures { IfOk result
+        (λ b. block b ≡ branches.only_branch (condition test.now) (block main.now) tree.end) }
 {
     let main = main.duplicate(alloc)?;
     only_branch(alloc, test, main, Block::new(alloc))
@@ -173,7 +188,8 @@ fn copy_over(
     body: &Block,
     fresh: &mut Fresh,
 ) -> Result<Block, AllocError>
-    ensures { IfOk result (λ b. block b ≡ renaming.fresh fresh.old (plain.over (plain_loop l.now) (block body.now))) }
+    ensures { IfOk result (λ b.
+        block b ≡ renaming.fresh fresh.old (plain.over (plain_loop l.now) (block body.now))) }
 {
     let over = l.with_body(alloc, body)?;
     fresh.copy(alloc, &over)
@@ -187,7 +203,8 @@ fn over_other(
     other: &Block,
     fresh: &mut Fresh,
 ) -> Result<Block, AllocError>
-    ensures { IfOk result (λ b. block b ≡ plain.over_other (plain_loop l.now) (block other.now) fresh.old) }
+    ensures { IfOk result
+        (λ b. block b ≡ plain.over_other (plain_loop l.now) (block other.now) fresh.old) }
 {
     if other.len() == 0 {
         return Ok(Block::new(alloc));
@@ -198,7 +215,8 @@ fn over_other(
 /// The fields that a condition reads.
 #[tactic(auto, using(crate::proofs::Lifted::read_set))]
 fn fields_read(alloc: Global, unit: &Unit, c: &Cond) -> Result<FieldSet, AllocError>
-    ensures { IfOk result (λ s. IsFieldSet (length (program unit.now).fields) (λ f. read_by_condition f (condition c.now)) s) }
+    ensures { IfOk result (λ s. IsFieldSet (length (program unit.now).fields)
+        (λ f. read_by_condition f (condition c.now)) s) }
 {
     let mut read = FieldSet::empty(alloc, unit.fields.len())?;
     add_condition(c, &mut read);
@@ -214,14 +232,16 @@ fn writes_read(
     b: &Block,
 ) -> Result<bool, AllocError>
     requires { IsWrittenTable (program unit.now) writes.now }
-    ensures { IfOk result (λ r. r ≡ some_field (program unit.now).fields (λ f. read_by_condition f (condition c.now) && written_in (program unit.now) (block b.now) f)) }
+    ensures { IfOk result (λ r. r ≡ some_field (program unit.now).fields (λ f.
+        read_by_condition f (condition c.now) && written_in (program unit.now) (block b.now) f)) }
 {
     let read = fields_read(alloc, unit, c)?;
     let written = may_write(alloc, unit, writes, b)?;
     Ok(have_common(&read, &written))
 }
 
-/// Where what stands in the branch after `else` of a condition in a loop goes, when the condition goes outside.
+/// Where what stands in the branch after `else` of a condition in a loop goes, when the condition
+/// goes outside.
 #[tactic(auto, using(crate::proofs::Lifted::nothing_after, crate::proofs::Lifted::some_after))]
 fn else_moved(alloc: Global, other: &Block) -> Result<Shifts, AllocError>
     ensures { IfOk result (λ l. l ≡ plain.else_shifts (block other.now)) }
@@ -253,7 +273,8 @@ fn loop_in_else() -> Path
 
 /// Adds that two statements change places, and that what stands in the inner one stays there.
 fn add_turned(all: &mut Shifts, within: &Block) -> Result<(), AllocError>
-    ensures { OnOk result (all.new ≡ all.old ++ plain.turned_round (length (statements (block within.now)))) }
+    ensures { OnOk result
+        (all.new ≡ all.old ++ plain.turned_round (length (statements (block within.now)))) }
 {
     let count = statement_count(within)?;
     all.push(alone_to(at_index(0), path_below(1)))?;
@@ -277,7 +298,8 @@ fn forked(
     k: &ForkAt<'_>,
     fresh: &mut Fresh,
 ) -> Result<Block, AllocError>
-    ensures { IfOk result (λ b. block b ≡ plain.lifted (plain.OutOfLoop (plain_loop l.now) (plain_fork k.now)) fresh.old) }
+    ensures { IfOk result (λ b.
+        block b ≡ plain.lifted (plain.OutOfLoop (plain_loop l.now) (plain_fork k.now)) fresh.old) }
 {
     let main = l.with_body(alloc, k.main)?;
     let other = over_other(alloc, l, k.other, fresh)?;
@@ -287,7 +309,8 @@ fn forked(
 impl ForkAt<'_> {
     /// The condition alone in a block.
     fn alone(&self, alloc: Global) -> Result<Block, AllocError>
-        ensures { IfOk result (λ b. block b ≡ branches.only_branch (plain_fork self.now).test (plain_fork self.now).main (plain_fork self.now).other) }
+        ensures { IfOk result (λ b. block b ≡ branches.only_branch (plain_fork self.now).test
+            (plain_fork self.now).main (plain_fork self.now).other) }
     {
         let main = self.main.duplicate(alloc)?;
         let other = self.other.duplicate(alloc)?;
@@ -321,7 +344,9 @@ impl LiftableAt<'_> {
         piece: &Piece,
     ) -> Result<bool, AllocError>
         requires { HasTables on.now }
-        ensures { IfOk result (λ r. r ≡ plain.changes_condition (spot_at (target on.now) (plain_piece piece.now)) (plain_lifting self.now)) }
+        ensures { IfOk result
+            (λ r. r ≡ plain.changes_condition (spot_at (target on.now) (plain_piece piece.now))
+            (plain_lifting self.now)) }
     {
         match self {
             LiftableAt::OutOfLoop(_, k) => {
@@ -341,7 +366,9 @@ impl LiftableAt<'_> {
         piece: &Piece,
     ) -> Result<(), StepError>
         requires { HasTables on.now }
-        ensures { Refuses (plain.lift_refusal (spot_at (target on.now) (plain_piece piece.now)) (Some (plain_lifting self.now))) result }
+        ensures { Refuses
+            (plain.lift_refusal (spot_at (target on.now) (plain_piece piece.now))
+            (Some (plain_lifting self.now))) result }
     {
         if self.changes_condition(alloc, on, piece)? {
             return Err(StepError::ConfigWrite);

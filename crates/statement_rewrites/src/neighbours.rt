@@ -44,7 +44,8 @@ pub(crate) struct Neighbours<'a> {
     pub(crate) second: &'a Stmt,
 }
 
-/// The two statements that are all of a block, where the second does not mention what the first binds.
+/// The two statements that are all of a block, where the second does not mention what the first
+/// binds.
 #[tactic(auto, using(crate::proofs::Neighbouring::two_there, crate::proofs::Neighbouring::two_bound, crate::proofs::Neighbouring::no_two))]
 pub(crate) fn neighbours_of(b: &Block) -> Option<Neighbours<'_>>
     ensures { option_map plain_neighbours result ≡ plain.neighbours_of (block b.now) }
@@ -66,7 +67,8 @@ pub(crate) fn neighbours_of(b: &Block) -> Option<Neighbours<'_>>
 #[tactic(auto, using(crate::proofs::Neighbouring::both_used))]
 fn used(alloc: Global, unit: &Unit, writes: &FieldTable, s: &Stmt) -> Result<FieldSet, AllocError>
     requires { IsWrittenTable (program unit.now) writes.now }
-    ensures { IfOk result (λ set. IsFieldSet (length (program unit.now).fields) (used_by (program unit.now) (statement s.now)) set) }
+    ensures { IfOk result (λ set. IsFieldSet (length (program unit.now).fields)
+        (used_by (program unit.now) (statement s.now)) set) }
 {
     let mut used = statement_may_write(alloc, unit, writes, s)?;
     let read = statement_may_read(alloc, unit, s)?;
@@ -83,7 +85,8 @@ fn writes_used(
     b: &Stmt,
 ) -> Result<bool, AllocError>
     requires { IsWrittenTable (program unit.now) writes.now }
-    ensures { IfOk result (λ r. r ≡ some_field (program unit.now).fields (writes_used (program unit.now) (statement a.now) (statement b.now))) }
+    ensures { IfOk result (λ r. r ≡ some_field (program unit.now).fields
+        (writes_used (program unit.now) (statement a.now) (statement b.now))) }
 {
     let written = statement_may_write(alloc, unit, writes, a)?;
     if !is_some(&written) {
@@ -118,7 +121,8 @@ fn meeting(alloc: Global, first: Path, second: Path) -> Conflict
 impl Neighbours<'_> {
     /// The second statement, and then the first.
     pub(crate) fn exchanged(&self, alloc: Global) -> Result<Block, AllocError>
-        ensures { IfOk result (λ b. block b ≡ pair (plain_neighbours self.now).second (plain_neighbours self.now).first) }
+        ensures { IfOk result (λ b.
+            block b ≡ pair (plain_neighbours self.now).second (plain_neighbours self.now).first) }
     {
         let mut made = Block::single(alloc, self.second.duplicate(alloc)?)?;
         made.push(self.first.duplicate(alloc)?)?;
@@ -133,7 +137,8 @@ impl Neighbours<'_> {
         writes: &FieldTable,
     ) -> Result<bool, AllocError>
         requires { IsWrittenTable (program unit.now) writes.now }
-        ensures { IfOk result (λ r. r ≡ some_field (program unit.now).fields (λ f. plain.share_field (program unit.now).procedures f (plain_neighbours self.now))) }
+        ensures { IfOk result (λ r. r ≡ some_field (program unit.now).fields
+            (λ f. plain.share_field (program unit.now).procedures f (plain_neighbours self.now))) }
     {
         let by_first = writes_used(alloc, unit, writes, self.first, self.second)?;
         let by_second = writes_used(alloc, unit, writes, self.second, self.first)?;
@@ -148,7 +153,11 @@ impl Neighbours<'_> {
         writes: &FieldTable,
     ) -> Result<(), StepError>
         requires { IsWrittenTable (program unit.now) writes.now }
-        ensures { Refuses (if some_field (program unit.now).fields (λ f. plain.share_field (program unit.now).procedures f (plain_neighbours self.now)) then Some ConfigWrite else None) result }
+        ensures { Refuses
+            (if some_field (program unit.now).fields
+            (λ f. plain.share_field (program unit.now).procedures f (plain_neighbours self.now))
+            then Some ConfigWrite
+            else None) result }
     {
         if self.share_field(alloc, unit, writes)? {
             return Err(StepError::ConfigWrite);
@@ -158,7 +167,8 @@ impl Neighbours<'_> {
 
     /// That they do not meet.
     pub(crate) fn owed(&self, alloc: Global, at: &Path) -> Result<Vec<Need>, AllocError>
-        ensures { IfOk result (λ ns. map plain_need ns.items ≡ plain.reorder_needs at.now (Some (plain_neighbours self.now))) }
+        ensures { IfOk result (λ ns. map plain_need ns.items
+            ≡ plain.reorder_needs at.now (Some (plain_neighbours self.now))) }
     {
         let next = path_onward(at, 1, &[])?;
         apart(alloc, at, meeting(alloc, at.duplicate(), next))

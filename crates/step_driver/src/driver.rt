@@ -17,7 +17,8 @@ ghost use Rattle.step_driver.specs.Outcomes.{Tries, Refuses, IsKept, KeepsMeanin
 ghost use Rattle.step_driver.specs.PlainExit.{plain_exit};
 ghost use Rattle.step_driver.specs.PlainTarget.{target, plain_piece};
 ghost use Rattle.step_driver.specs.Spots.{spot_at, exit_of};
-ghost use Rattle.step_driver.specs.Stages.{shape_of, version_by, edits_by, plan_by, settled, concluded, finished};
+ghost use Rattle.step_driver.specs.Stages.{shape_of, version_by, edits_by, plan_by, settled};
+ghost use Rattle.step_driver.specs.Stages.{concluded, finished};
 ghost use Rattle.step_driver.specs.Tables.{HasTables};
 
 use crate::made::{passed, placed, version};
@@ -36,8 +37,9 @@ use tree_rules::{Findings, findings_of_body, findings_of_version};
 
 /// What the step of an operator makes of a procedure at a path. The tables are those of the unit.
 ///
-/// Refusals come in this order: the shape of the place; rules and scope of the result as it is made and of what
-/// is needed; the operator's own; then normal forms and what is owed; then names and limits of the result.
+/// Refusals come in this order: the shape of the place; rules and scope of the result as it is made
+/// and of what is needed; the operator's own; then normal forms and what is owed; then names and
+/// limits of the result.
 #[tactic(auto, using(crate::proofs::Means::answers_kept, crate::proofs::Means::answers_mean, crate::proofs::Means::answers_move))]
 pub fn propose<O: Operator>(
     alloc: Global,
@@ -88,8 +90,12 @@ fn answered_there<O: Operator>(
 ) -> Result<Proposal, StepError>
     requires tables { HasTables on.now }
     requires target { IsTarget (target on.now) }
-    requires there { option_map (λ o. is_alone o.around) (opened piece.now.count piece.now.path (block on.now.proc.now.body)) ≡ Some alone }
-    ensures { Tries plain_proposal (answer.answered (O.rule op.now) (spot_at (target on.now) (plain_piece piece.now))) result }
+    requires there { option_map (λ o. is_alone o.around)
+        (opened piece.now.count piece.now.path (block on.now.proc.now.body))
+        ≡ Some alone }
+    ensures { Tries plain_proposal
+        (answer.answered (O.rule op.now) (spot_at (target on.now) (plain_piece piece.now)))
+        result }
 {
     let base = first_id(on)?;
     let found = needed(alloc, on, piece, op)?;
@@ -99,9 +105,11 @@ fn answered_there<O: Operator>(
     finish(alloc, on, piece, alone, base, op)
 }
 
-/// The first id of a made binder. Where ids have no room for a step it is answered as want of memory.
+/// The first id of a made binder. Where ids have no room for a step it is answered as want of
+/// memory.
 fn first_id(on: &Target<'_>) -> Result<u32, AllocError>
-    ensures { IfOk result (λ base. (base ≡ ids.next_id (procedure on.now.proc.now)) × (base ≤ 4294901759)) }
+    ensures { IfOk result
+        (λ base. (base ≡ ids.next_id (procedure on.now.proc.now)) × (base ≤ 4294901759)) }
 {
     let first = next_id(on.proc);
     if first > 4294901759 {
@@ -110,7 +118,8 @@ fn first_id(on: &Target<'_>) -> Result<u32, AllocError>
     Ok(first as u32)
 }
 
-/// Refuses where the result as it is made, or what is needed, breaks a rule or uses what is not in scope.
+/// Refuses where the result as it is made, or what is needed, breaks a rule or uses what is not in
+/// scope.
 fn shape_kept(
     alloc: Global,
     on: &Target<'_>,
@@ -120,8 +129,12 @@ fn shape_kept(
     found: Findings,
 ) -> Result<(), StepError>
     requires tables { HasTables on.now }
-    requires there { option_map (λ o. is_alone o.around) (opened piece.now.count piece.now.path (block on.now.proc.now.body)) ≡ Some alone }
-    ensures { Refuses (broken (shape_of (spot_at (target on.now) (plain_piece piece.now)) (block plain) found)) result }
+    requires there { option_map (λ o. is_alone o.around)
+        (opened piece.now.count piece.now.path (block on.now.proc.now.body))
+        ≡ Some alone }
+    ensures { Refuses
+        (broken (shape_of (spot_at (target on.now) (plain_piece piece.now)) (block plain) found))
+        result }
 {
     let whole = passed(on, piece, alone, plain)?;
     let body = placed(alloc, on.proc, piece, alone, &whole)?;
@@ -142,9 +155,14 @@ fn finish<O: Operator>(
     requires target { IsTarget (target on.now) }
     requires base { base ≡ ids.next_id (procedure on.now.proc.now) }
     requires small { base ≤ 4294901759 }
-    requires there { option_map (λ o. is_alone o.around) (opened piece.now.count piece.now.path (block on.now.proc.now.body)) ≡ Some alone }
-    requires rules { (owing.findings_of_needs (target on.now) ((O.rule op.now).needs (spot_at (target on.now) (plain_piece piece.now)))).rules ≡ true }
-    ensures { Tries plain_proposal (finished (O.rule op.now) (spot_at (target on.now) (plain_piece piece.now))) result }
+    requires there { option_map (λ o. is_alone o.around)
+        (opened piece.now.count piece.now.path (block on.now.proc.now.body))
+        ≡ Some alone }
+    requires rules { (owing.findings_of_needs (target on.now)
+        ((O.rule op.now).needs (spot_at (target on.now) (plain_piece piece.now)))).rules
+        ≡ true }
+    ensures { Tries plain_proposal
+        (finished (O.rule op.now) (spot_at (target on.now) (plain_piece piece.now))) result }
 {
     let made = op.draft(alloc, on, piece, Writing::Simplified, &mut Fresh::new(base))?;
     let must = owed(alloc, on, piece, op)?;
@@ -165,8 +183,14 @@ fn conclude<O: Operator>(
     requires tables { HasTables on.now }
     requires base { base ≡ ids.next_id (procedure on.now.proc.now) }
     requires small { base ≤ 4294901759 }
-    requires there { option_map (λ o. is_alone o.around) (opened piece.now.count piece.now.path (block on.now.proc.now.body)) ≡ Some alone }
-    ensures { Tries plain_proposal (concluded (O.rule op.now) (spot_at (target on.now) (plain_piece piece.now)) (block made) (map plain_obligation must.items)) result }
+    requires there { option_map (λ o. is_alone o.around)
+        (opened piece.now.count piece.now.path (block on.now.proc.now.body))
+        ≡ Some alone }
+    ensures { Tries plain_proposal
+        (concluded (O.rule op.now)
+        (spot_at (target on.now) (plain_piece piece.now))
+        (block made)
+        (map plain_obligation must.items)) result }
 {
     let whole = passed(on, piece, alone, made)?;
     settle(alloc, on, piece, alone, base, &whole, must, op)
@@ -186,18 +210,27 @@ fn settle<O: Operator>(
     requires tables { HasTables on.now }
     requires base { base ≡ ids.next_id (procedure on.now.proc.now) }
     requires small { base ≤ 4294901759 }
-    requires there { option_map (λ o. is_alone o.around) (opened piece.now.count piece.now.path (block on.now.proc.now.body)) ≡ Some alone }
-    ensures { Tries plain_proposal (settled (O.rule op.now) (spot_at (target on.now) (plain_piece piece.now)) (block whole.now) (map plain_obligation must.items)) result }
+    requires there { option_map (λ o. is_alone o.around)
+        (opened piece.now.count piece.now.path (block on.now.proc.now.body))
+        ≡ Some alone }
+    ensures { Tries plain_proposal
+        (settled (O.rule op.now)
+        (spot_at (target on.now) (plain_piece piece.now))
+        (block whole.now)
+        (map plain_obligation must.items)) result }
 {
     let told = told(alloc, on, piece, alone, base, whole, must, op)?;
     version_kept(alloc, on, base, &told.proc)?;
     Ok(told)
 }
 
-/// Refuses where the result breaks a rule, uses what is not in scope, binds a name again, or passes a limit.
+/// Refuses where the result breaks a rule, uses what is not in scope, binds a name again, or passes
+/// a limit.
 fn version_kept(alloc: Global, on: &Target<'_>, base: u32, proc: &Proc) -> Result<(), StepError>
     requires tables { HasTables on.now }
-    ensures { Refuses (broken (findings.findings_of_version (program on.now.unit.now) base (procedure proc.now))) result }
+    ensures { Refuses
+        (broken (findings.findings_of_version (program on.now.unit.now) base (procedure proc.now)))
+        result }
 {
     refused(findings_of_version(alloc, on.unit, on.modes, base, proc)?)
 }
@@ -213,8 +246,12 @@ fn version_with<O: Operator>(
     op: &O,
 ) -> Result<Proc, AllocError>
     requires small { base ≤ 4294901759 }
-    requires there { option_map (λ o. is_alone o.around) (opened piece.now.count piece.now.path (block on.now.proc.now.body)) ≡ Some alone }
-    ensures { IfOk result (λ q. procedure q ≡ version_by (O.rule op.now) (spot_at (target on.now) (plain_piece piece.now)) base (block whole.now)) }
+    requires there { option_map (λ o. is_alone o.around)
+        (opened piece.now.count piece.now.path (block on.now.proc.now.body))
+        ≡ Some alone }
+    ensures { IfOk result (λ q. procedure q ≡ version_by (O.rule op.now)
+        (spot_at (target on.now) (plain_piece piece.now)) base
+        (block whole.now)) }
 {
     let body = placed(alloc, on.proc, piece, alone, whole)?;
     let name = op.name(alloc, on.proc)?;
@@ -234,8 +271,16 @@ fn told<O: Operator>(
     op: &O,
 ) -> Result<Proposal, AllocError>
     requires small { base ≤ 4294901759 }
-    requires there { option_map (λ o. is_alone o.around) (opened piece.now.count piece.now.path (block on.now.proc.now.body)) ≡ Some alone }
-    ensures { IfOk result (λ m. plain_proposal m ≡ plan_by (O.rule op.now) (spot_at (target on.now) (plain_piece piece.now)) (version_by (O.rule op.now) (spot_at (target on.now) (plain_piece piece.now)) base (block whole.now)) (block whole.now) (map plain_obligation must.items)) }
+    requires there { option_map (λ o. is_alone o.around)
+        (opened piece.now.count piece.now.path (block on.now.proc.now.body))
+        ≡ Some alone }
+    ensures { IfOk result (λ m. plain_proposal m ≡ plan_by (O.rule op.now)
+        (spot_at (target on.now) (plain_piece piece.now))
+        (version_by (O.rule op.now)
+        (spot_at (target on.now) (plain_piece piece.now)) base
+        (block whole.now))
+        (block whole.now)
+        (map plain_obligation must.items)) }
 {
     let (edits, exit) = ways(alloc, on, piece, whole, op)?;
     let proc = version_with(alloc, on, piece, alone, base, whole, op)?;
@@ -257,8 +302,11 @@ fn ways<O: Operator>(
     whole: &Block,
     op: &O,
 ) -> Result<(Edits, Exit), AllocError>
-    ensures edits { IfOk result (λ w. w.0 ≡ edits_by (O.rule op.now) (spot_at (target on.now) (plain_piece piece.now)) (block whole.now)) }
-    ensures exit { IfOk result (λ w. plain_exit w.1 ≡ exit_of (O.rule op.now) (spot_at (target on.now) (plain_piece piece.now))) }
+    ensures edits { IfOk result (λ w. w.0 ≡ edits_by (O.rule op.now)
+        (spot_at (target on.now) (plain_piece piece.now))
+        (block whole.now)) }
+    ensures exit { IfOk result (λ w. plain_exit w.1 ≡ exit_of (O.rule op.now)
+        (spot_at (target on.now) (plain_piece piece.now))) }
 {
     let edits = edits(alloc, on, piece, whole, op)?;
     let exit = op.exit(alloc, on, piece)?;
@@ -274,7 +322,9 @@ fn edits<O: Operator>(
     whole: &Block,
     op: &O,
 ) -> Result<Edits, AllocError>
-    ensures { IfOk result (λ e. e ≡ edits_by (O.rule op.now) (spot_at (target on.now) (plain_piece piece.now)) (block whole.now)) }
+    ensures { IfOk result (λ e. e ≡ edits_by (O.rule op.now)
+        (spot_at (target on.now) (plain_piece piece.now))
+        (block whole.now)) }
 {
     let count = whole.len();
     if count > 4294967295 {

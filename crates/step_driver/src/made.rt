@@ -15,7 +15,8 @@ use made_trees::{named_copies, or_pass};
 use std::alloc::{AllocError, Global};
 use tree_edits::replaced;
 
-/// What is put in the place of a piece that is there: a `pass` where nothing would stand in its block.
+/// What is put in the place of a piece that is there: a `pass` where nothing would stand in its
+/// block.
 #[tactic(auto, using(crate::proofs::Placed::alone_there))]
 pub(crate) fn passed(
     on: &Target<'_>,
@@ -23,8 +24,12 @@ pub(crate) fn passed(
     alone: bool,
     made: Block,
 ) -> Result<Block, AllocError>
-    requires { option_map (λ o. is_alone o.around) (opened piece.now.count piece.now.path (block on.now.proc.now.body)) ≡ Some alone }
-    ensures { IfOk result (λ b. block b ≡ trees.or_pass (or_nothing (opened piece.now.count piece.now.path (block on.now.proc.now.body))).around (block made)) }
+    requires { option_map (λ o. is_alone o.around)
+        (opened piece.now.count piece.now.path (block on.now.proc.now.body))
+        ≡ Some alone }
+    ensures { IfOk result (λ b. block b ≡ trees.or_pass
+        (or_nothing (opened piece.now.count piece.now.path (block on.now.proc.now.body))).around
+        (block made)) }
 {
     let mut whole = made;
     or_pass(&mut whole, alone)?;
@@ -40,8 +45,12 @@ pub(crate) fn placed(
     alone: bool,
     made: &Block,
 ) -> Result<Block, AllocError>
-    requires { option_map (λ o. is_alone o.around) (opened piece.now.count piece.now.path (block p.now.body)) ≡ Some alone }
-    ensures { IfOk result (λ b. block b ≡ fill (or_nothing (opened piece.now.count piece.now.path (block p.now.body))).around (block made.now)) }
+    requires { option_map (λ o. is_alone o.around)
+        (opened piece.now.count piece.now.path (block p.now.body))
+        ≡ Some alone }
+    ensures { IfOk result (λ b. block b ≡ fill
+        (or_nothing (opened piece.now.count piece.now.path (block p.now.body))).around
+        (block made.now)) }
 {
     match replaced(alloc, &p.body, &piece.path, piece.count, made)? {
         Some(body) => Ok(body),
@@ -49,8 +58,8 @@ pub(crate) fn placed(
     }
 }
 
-/// A procedure under another name and with another body, in which binders with ids from `copies` on are those
-/// of copies.
+/// A procedure under another name and with another body, in which binders with ids from `copies` on
+/// are those of copies.
 pub(crate) fn version(
     alloc: Global,
     p: &Proc,
@@ -58,7 +67,11 @@ pub(crate) fn version(
     copies: u32,
     body: &Block,
 ) -> Result<Proc, AllocError>
-    ensures { IfOk result (λ q. procedure q ≡ record (procedure p.now) { name = name; body = names.named_copies (procedure p.now) copies (block body.now) }) }
+    ensures { IfOk result (λ q. procedure q
+        ≡ record (procedure p.now) {
+          name = name;
+          body = names.named_copies (procedure p.now) copies (block body.now);
+        }) }
 {
     let body = named_copies(alloc, p, copies, body)?;
     with_body(alloc, p, name, body)
@@ -66,7 +79,8 @@ pub(crate) fn version(
 
 /// A procedure under another name and with another body.
 fn with_body(alloc: Global, p: &Proc, name: Name, body: Block) -> Result<Proc, AllocError>
-    ensures { IfOk result (λ q. procedure q ≡ record (procedure p.now) { name = name; body = block body }) }
+    ensures { IfOk result
+        (λ q. procedure q ≡ record (procedure p.now) { name = name; body = block body }) }
 {
     let copied = p.duplicate(alloc)?;
     Ok(Proc {

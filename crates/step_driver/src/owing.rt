@@ -23,7 +23,8 @@ pub(crate) fn needed<O: Operator>(
     piece: &Piece,
     op: &O,
 ) -> Result<Findings, AllocError>
-    ensures { IfOk result (λ f. f ≡ owing.findings_of_needs (target on.now) ((O.rule op.now).needs (spot_at (target on.now) (plain_piece piece.now)))) }
+    ensures { IfOk result (λ f. f ≡ owing.findings_of_needs (target on.now)
+        ((O.rule op.now).needs (spot_at (target on.now) (plain_piece piece.now)))) }
 {
     let needs = op.needs(alloc, on, piece)?;
     findings_of_needs(alloc, on.unit, on.proc, &needs)
@@ -38,8 +39,12 @@ pub(crate) fn owed<O: Operator>(
 ) -> Result<Vec<Obligation>, StepError>
     requires tables { HasTables on.now }
     requires target { IsTarget (target on.now) }
-    requires rules { (owing.findings_of_needs (target on.now) ((O.rule op.now).needs (spot_at (target on.now) (plain_piece piece.now)))).rules ≡ true }
-    ensures { Tries (λ v. map plain_obligation v.items) (owing.owed_needs (target on.now) ((O.rule op.now).needs (spot_at (target on.now) (plain_piece piece.now)))) result }
+    requires rules { (owing.findings_of_needs (target on.now)
+        ((O.rule op.now).needs (spot_at (target on.now) (plain_piece piece.now)))).rules
+        ≡ true }
+    ensures { Tries (λ v. map plain_obligation v.items)
+        (owing.owed_needs (target on.now)
+        ((O.rule op.now).needs (spot_at (target on.now) (plain_piece piece.now)))) result }
 {
     let needs = op.needs(alloc, on, piece)?;
     owed_needs(alloc, on.unit, on.modes, on.writes, on.proc, &needs)

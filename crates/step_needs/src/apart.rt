@@ -28,7 +28,8 @@ use std::alloc::{AllocError, Global};
 
 /// The loops round a piece, as conflicts are asked about them.
 fn turns_of<'a>(alloc: Global, loops: &'a [Header]) -> Result<Vec<Turn<'a>>, AllocError>
-    ensures { IfOk result (λ ts. map turn_loop ts.items ≡ map loop_of (map plain_header loops.now)) }
+    ensures { IfOk result
+        (λ ts. map turn_loop ts.items ≡ map loop_of (map plain_header loops.now)) }
 {
     let mut made = Vec::new(alloc);
     for h in loops {
@@ -53,7 +54,11 @@ fn listed(
     requires modes { table_says modes.now ≡ modes_of (program at.now.unit.now) }
     requires well { IsWell (program at.now.unit.now, procedure at.now.proc.now) }
     requires low { IsTrue (order_is_low order.now) }
-    ensures { (n : Numbered) → IsListed result (listing_at (target_in (program at.now.unit.now, procedure at.now.proc.now) n) (plain_conflict k.now) at.now.path.now (plain_order order.now) path.now) }
+    ensures { (n : Numbered)
+        → IsListed result
+        (listing_at (target_in (program at.now.unit.now, procedure at.now.proc.now) n)
+        (plain_conflict k.now) at.now.path.now
+        (plain_order order.now) path.now) }
 {
     contexts_are_low();
     accesses_are_low();
@@ -80,7 +85,12 @@ fn owed_at(
     requires modes { table_says modes.now ≡ modes_of (program at.now.unit.now) }
     requires well { IsWell (program at.now.unit.now, procedure at.now.proc.now) }
     requires low { IsTrue (conflict_is_low (plain_conflict k.now)) }
-    ensures { (n : Numbered) → IsListed result (listing_at (target_in (program at.now.unit.now, procedure at.now.proc.now) n) (plain_conflict k.now) at.now.path.now (order_of (plain_conflict k.now).first.loops (plain_conflict k.now).second.loops (plain_conflict k.now).order) path.now) }
+    ensures { (n : Numbered)
+        → IsListed result
+        (listing_at (target_in (program at.now.unit.now, procedure at.now.proc.now) n)
+        (plain_conflict k.now) at.now.path.now
+        (order_of (plain_conflict k.now).first.loops (plain_conflict k.now).second.loops
+        (plain_conflict k.now).order) path.now) }
 {
     let first = turns_of(alloc, &k.first.loops)?;
     let second = turns_of(alloc, &k.second.loops)?;
@@ -102,7 +112,9 @@ pub(crate) fn put_apart(
 ) -> Result<(), StepError>
     requires site { IsSite site.now }
     requires low { IsTrue (conflict_is_low (plain_conflict k.now)) }
-    ensures { (n : Numbered) (m : rule.Need) → m ≡ rule.Apart path.now (plain_conflict k.now) → Puts result (target_in (seen site.now) n) m out.old out.new }
+    ensures { (n : Numbered) (m : rule.Need)
+        → m ≡ rule.Apart path.now (plain_conflict k.now)
+        → Puts result (target_in (seen site.now) n) m out.old out.new }
 {
     let place = place_in(site.proc, path);
     let standing = Standing {

@@ -28,7 +28,10 @@ fn findings_of_need(
     p: &Proc,
     need: &Need,
 ) -> Result<Findings, AllocError>
-    ensures { (k : Numbered) → IfOk result (λ f. f ≡ owing.findings_of_need (target_in (program unit.now, procedure p.now) k) (plain_need need.now)) }
+    ensures { (k : Numbered)
+        → IfOk result
+        (λ f. f ≡ owing.findings_of_need (target_in (program unit.now, procedure p.now) k)
+        (plain_need need.now)) }
 {
     match need {
         Need::Says(path, fact) => findings_of_condition_at(alloc, unit, p, path, fact.condition()),
@@ -46,7 +49,10 @@ pub fn findings_of_needs(
     p: &Proc,
     needs: &[Need],
 ) -> Result<Findings, AllocError>
-    ensures { (k : Numbered) → IfOk result (λ f. f ≡ owing.findings_of_needs (target_in (program unit.now, procedure p.now) k) (map plain_need needs.now)) }
+    ensures { (k : Numbered)
+        → IfOk result
+        (λ f. f ≡ owing.findings_of_needs (target_in (program unit.now, procedure p.now) k)
+        (map plain_need needs.now)) }
 {
     let [n, rest @ ..] = needs else {
         return Ok(Findings::FINE);

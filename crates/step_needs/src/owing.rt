@@ -52,8 +52,13 @@ fn put_there(
     out: &mut OwedList,
 ) -> Result<(), StepError>
     requires rules { IsTrue (condition_keeps_rules (condition_of (plain_fact fact.now))) }
-    ensures { (t : Target) → t.unit.fields ≡ there.now.fields.now → roots_in there.now.roots.now ≡ roots_of t.proc → there.now.facts.now ≡ facts_of t.unit t.proc path.now →
-        words_in words.now ≡ words_of t.unit t.proc → context.now ≡ context_of t.unit t.proc path.now → context_fits t.unit t.proc path.now ≡ true →
+    ensures { (t : Target) →
+        t.unit.fields ≡ there.now.fields.now →
+        roots_in there.now.roots.now ≡ roots_of t.proc →
+        there.now.facts.now ≡ facts_of t.unit t.proc path.now →
+        words_in words.now ≡ words_of t.unit t.proc →
+        context.now ≡ context_of t.unit t.proc path.now →
+        context_fits t.unit t.proc path.now ≡ true →
         Puts result t (rule.Says path.now (plain_fact fact.now)) out.old out.new }
 {
     let formula = formula_of(alloc, there, fact.condition())?;
@@ -76,7 +81,9 @@ fn put_fact(
     requires site { IsSite site.now }
     requires cursor { cursor.old ≡ seen site.now }
     requires rules { IsTrue (condition_keeps_rules (condition_of (plain_fact fact.now))) }
-    ensures puts { (k : Numbered) (n : rule.Need) → n ≡ rule.Says path.now (plain_fact fact.now) → Puts result (target_in (seen site.now) k) n out.old out.new }
+    ensures puts { (k : Numbered) (n : rule.Need)
+        → n ≡ rule.Says path.now (plain_fact fact.now)
+        → Puts result (target_in (seen site.now) k) n out.old out.new }
     ensures same { cursor.new ≡ cursor.old }
 {
     let (context, facts) = cursor.at(alloc, &place_in(site.proc, path))?;
@@ -99,7 +106,8 @@ fn put_need(
     requires site { IsSite site.now }
     requires cursor { cursor.old ≡ seen site.now }
     requires affine { IsTrue (is_affine (plain_need need.now)) }
-    ensures puts { (k : Numbered) → Puts result (target_in (seen site.now) k) (plain_need need.now) out.old out.new }
+    ensures puts { (k : Numbered)
+        → Puts result (target_in (seen site.now) k) (plain_need need.now) out.old out.new }
     ensures same { cursor.new ≡ cursor.old }
 {
     match need {
@@ -119,7 +127,8 @@ fn put_needs(
     requires site { IsSite site.now }
     requires cursor { cursor.old ≡ seen site.now }
     requires affine { IsTrue (list_all is_affine (map plain_need needs.now)) }
-    ensures { (k : Numbered) → PutsAll result (target_in (seen site.now) k) (map plain_need needs.now) out.old out.new }
+    ensures { (k : Numbered)
+        → PutsAll result (target_in (seen site.now) k) (map plain_need needs.now) out.old out.new }
 {
     let [n, rest @ ..] = needs else {
         return Ok(());
@@ -141,8 +150,14 @@ fn owed_for(
     requires writes { IsTable (length (program unit.now).fields)
         (unit_writes (program unit.now).procedures) writes.now }
     requires target { (k : Numbered) × IsTarget (target_in (program unit.now, procedure p.now) k) }
-    requires rules { (k : Numbered) × ((owing.findings_of_needs (target_in (program unit.now, procedure p.now) k) (map plain_need needs.now)).rules ≡ true) }
-    ensures { (k : Numbered) → Tries (λ v. map plain_obligation v.items) (owing.owed_needs (target_in (program unit.now, procedure p.now) k) (map plain_need needs.now)) result }
+    requires rules { (k : Numbered)
+        × ((owing.findings_of_needs (target_in (program unit.now, procedure p.now) k)
+        (map plain_need needs.now)).rules
+        ≡ true) }
+    ensures { (k : Numbered)
+        → Tries (λ v. map plain_obligation v.items)
+        (owing.owed_needs (target_in (program unit.now, procedure p.now) k)
+        (map plain_need needs.now)) result }
 {
     procedures_keep_rules();
     well_formed_procedures_may_be_walked();
@@ -162,9 +177,10 @@ fn owed_for(
     Ok(out.into_items())
 }
 
-/// What needs owe, in their order, each in the context of its place. `Form` for the first that is refused: of one need
-/// first its forms, then its cases, then the size of its systems, then that all passes 65,536 systems or 4,194,304 terms.
-/// The procedure is one of a well-formed unit, and the needs break no rule. Where there is none the unit is not looked at.
+/// What needs owe, in their order, each in the context of its place. `Form` for the first that is
+/// refused: of one need first its forms, then its cases, then the size of its systems, then that
+/// all passes 65,536 systems or 4,194,304 terms. The procedure is one of a well-formed unit, and
+/// the needs break no rule. Where there is none the unit is not looked at.
 pub fn owed_needs(
     alloc: Global,
     unit: &Unit,
@@ -177,8 +193,14 @@ pub fn owed_needs(
     requires writes { IsTable (length (program unit.now).fields)
         (unit_writes (program unit.now).procedures) writes.now }
     requires target { (k : Numbered) × IsTarget (target_in (program unit.now, procedure p.now) k) }
-    requires rules { (k : Numbered) × ((owing.findings_of_needs (target_in (program unit.now, procedure p.now) k) (map plain_need needs.now)).rules ≡ true) }
-    ensures { (k : Numbered) → Tries (λ v. map plain_obligation v.items) (owing.owed_needs (target_in (program unit.now, procedure p.now) k) (map plain_need needs.now)) result }
+    requires rules { (k : Numbered)
+        × ((owing.findings_of_needs (target_in (program unit.now, procedure p.now) k)
+        (map plain_need needs.now)).rules
+        ≡ true) }
+    ensures { (k : Numbered)
+        → Tries (λ v. map plain_obligation v.items)
+        (owing.owed_needs (target_in (program unit.now, procedure p.now) k)
+        (map plain_need needs.now)) result }
 {
     let [_, ..] = needs else {
         return Ok(Vec::new(alloc));

@@ -45,7 +45,8 @@ pub fn loop_in(s: &Stmt) -> Option<LoopAt<'_>>
 
 /// The loop that is all of a piece; None exactly where it is no loop, or not one statement.
 pub fn loop_at<'a>(on: &Target<'a>, piece: &Piece) -> Option<LoopAt<'a>>
-    ensures { option_map plain_loop result ≡ shapes.loop_of (spot_at (target on.now) (plain_piece piece.now)).opened.piece }
+    ensures { option_map plain_loop result
+        ≡ shapes.loop_of (spot_at (target on.now) (plain_piece piece.now)).opened.piece }
 {
     match on.statement(piece) {
         None => None,
@@ -91,7 +92,8 @@ pub fn only_loop(
     hi: Ctrl,
     body: Block,
 ) -> Result<Block, AllocError>
-    ensures { IfOk result (λ b. block b ≡ plain.only_loop (binding binder) (control lo) (control hi) (block body)) }
+    ensures { IfOk result
+        (λ b. block b ≡ plain.only_loop (binding binder) (control lo) (control hi) (block body)) }
 {
     Block::single(alloc, Stmt::For(binder, lo, hi, body))
 }
@@ -99,7 +101,8 @@ pub fn only_loop(
 impl LoopAt<'_> {
     /// Whether its bounds are affine and over variables alone.
     pub fn has_affine_bounds(&self) -> bool
-        ensures { result ≡ (is_affine variables (plain_loop self.now).lo && is_affine variables (plain_loop self.now).hi) }
+        ensures { result ≡ (is_affine variables (plain_loop self.now).lo
+            && is_affine variables (plain_loop self.now).hi) }
     {
         is_over_variables(self.lo) && is_over_variables(self.hi)
     }
@@ -112,7 +115,8 @@ impl LoopAt<'_> {
         hi: &Ctrl,
         body: &Block,
     ) -> Result<Block, AllocError>
-        ensures { IfOk result (λ b. block b ≡ plain.only_loop (plain_loop self.now).binder (control lo.now) (control hi.now) (block body.now)) }
+        ensures { IfOk result (λ b. block b ≡ plain.only_loop (plain_loop self.now).binder
+            (control lo.now) (control hi.now) (block body.now)) }
     {
         let binder = self.binder.duplicate(alloc)?;
         let (low, high) = copies(alloc, lo, hi)?;
@@ -121,7 +125,8 @@ impl LoopAt<'_> {
 
     /// The loop with another body.
     pub fn with_body(&self, alloc: Global, body: &Block) -> Result<Block, AllocError>
-        ensures { IfOk result (λ b. block b ≡ plain.only_loop (plain_loop self.now).binder (plain_loop self.now).lo (plain_loop self.now).hi (block body.now)) }
+        ensures { IfOk result (λ b. block b ≡ plain.only_loop (plain_loop self.now).binder
+            (plain_loop self.now).lo (plain_loop self.now).hi (block body.now)) }
     {
         self.between(alloc, self.lo, self.hi, body)
     }

@@ -98,7 +98,10 @@ fn put_from(path: &mut Path, first: Step, rest: &[Step]) -> Result<(), AllocErro
 /// Puts the path last that leads from the statement so many behind the one at a path on.
 #[tactic(auto, using(crate::proofs::Made::put_more, crate::proofs::Made::none_onward, crate::proofs::Made::last_onward, crate::proofs::Made::more_onward))]
 fn put_onward(path: &mut Path, at: &[Step], index: u32, below: &[Step]) -> Result<(), AllocError>
-    ensures { OnOk result (path.new ≡ path.old ++ plain.onward (map step_taken at.now) (record { branch = Main; index = index }) (map step_taken below.now)) }
+    ensures { OnOk result (path.new
+        ≡ path.old
+        ++ plain.onward (map step_taken at.now) (record { branch = Main; index = index })
+        (map step_taken below.now)) }
 {
     match at.split_first() {
         None => { put_from(path, numbered(index), below) }
@@ -112,10 +115,11 @@ fn put_onward(path: &mut Path, at: &[Step], index: u32, below: &[Step]) -> Resul
     }
 }
 
-/// The path that leads from the statement so many behind the one at a path on. Where a path has no room for it, it is
-/// answered as want of memory.
+/// The path that leads from the statement so many behind the one at a path on. Where a path has no
+/// room for it, it is answered as want of memory.
 pub fn path_onward(at: &Path, index: u32, below: &[Step]) -> Result<Path, AllocError>
-    ensures { IfOk result (λ p. p ≡ plain.onward at.now (record { branch = Main; index = index }) (map step_taken below.now)) }
+    ensures { IfOk result (λ p. p ≡ plain.onward at.now (record { branch = Main; index = index })
+        (map step_taken below.now)) }
 {
     let mut path = Path::new();
     put_onward(&mut path, at.as_slice(), index, below)?;

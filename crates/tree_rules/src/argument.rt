@@ -17,7 +17,8 @@ use exo_tree::{Arg, Cell, Coord, Id, Kind, Param, ParamKind};
 
 /// What is found in an argument for a control value.
 fn in_value(names: &Names, may: Reads, kind: Kind, a: &Arg) -> Findings
-    ensures { result ≡ found.findings_of_kind (kinds_seen names.now) (reads may) (scope_seen names.now) (control_kind kind) (argument a.now) }
+    ensures { result ≡ found.findings_of_kind (kinds_seen names.now) (reads may)
+        (scope_seen names.now) (control_kind kind) (argument a.now) }
 {
     match a {
         Arg::Ctrl(e) => Findings::rule(kind != Kind::Bool).and(in_control(names, may, e)),
@@ -28,7 +29,11 @@ fn in_value(names: &Names, may: Reads, kind: Kind, a: &Arg) -> Findings
 
 /// What is found in a window of a buffer of that cell type.
 fn in_part(names: &Names, cell: Cell, x: Id, coords: &[Coord]) -> Findings
-    ensures { result ≡ classes.both (classes.use_of (units.has_cell (cell_type cell)) (units.sort_in (scope_seen names.now) x.0)) (found.findings_of_window (kinds_seen names.now) (scope_seen names.now) x.0 (map coordinate coords.now)) }
+    ensures { result ≡ classes.both
+        (classes.use_of (units.has_cell (cell_type cell))
+        (units.sort_in (scope_seen names.now) x.0))
+        (found.findings_of_window (kinds_seen names.now) (scope_seen names.now) x.0
+        (map coordinate coords.now)) }
 {
     let sort = names.sort(x);
     use_of(sort, has_cell(cell, sort)).and(in_window(names, x, coords))
@@ -36,14 +41,17 @@ fn in_part(names: &Names, cell: Cell, x: Id, coords: &[Coord]) -> Findings
 
 /// Whether a tensor of rank 0 takes a window: it is a single cell.
 fn is_cell(rank: usize, coords: &[Coord]) -> bool
-    ensures { result ≡ ((rank == 0) && ((units.spans (map coordinate coords.now) == 0) && not (length (map coordinate coords.now) == 0))) }
+    ensures { result ≡ ((rank == 0)
+        && ((units.spans (map coordinate coords.now) == 0)
+        && not (length (map coordinate coords.now) == 0))) }
 {
     rank == 0 && (spans(coords) == 0 && !(coords.len() == 0))
 }
 
 /// What is found in an argument for a tensor.
 fn in_tensor(names: &Names, cell: Cell, rank: usize, a: &Arg) -> Findings
-    ensures { result ≡ found.findings_of_tensor (kinds_seen names.now) (scope_seen names.now) (cell_type cell) rank (argument a.now) }
+    ensures { result ≡ found.findings_of_tensor (kinds_seen names.now) (scope_seen names.now)
+        (cell_type cell) rank (argument a.now) }
 {
     match a {
         Arg::Whole(x) => {
@@ -66,7 +74,8 @@ fn in_tensor(names: &Names, cell: Cell, rank: usize, a: &Arg) -> Findings
 
 /// What is found in an argument for a window.
 fn in_strided(names: &Names, cell: Cell, rank: usize, a: &Arg) -> Findings
-    ensures { result ≡ found.findings_of_strided (kinds_seen names.now) (scope_seen names.now) (cell_type cell) rank (argument a.now) }
+    ensures { result ≡ found.findings_of_strided (kinds_seen names.now) (scope_seen names.now)
+        (cell_type cell) rank (argument a.now) }
 {
     match a {
         Arg::Whole(x) => {
@@ -83,7 +92,8 @@ fn in_strided(names: &Names, cell: Cell, rank: usize, a: &Arg) -> Findings
 
 /// What is found in an argument for a parameter.
 fn in_argument(names: &Names, kind: &ParamKind, a: &Arg) -> Findings
-    ensures { result ≡ found.findings_of_argument (kinds_seen names.now) (scope_seen names.now) (parameter_kind kind.now) (argument a.now) }
+    ensures { result ≡ found.findings_of_argument (kinds_seen names.now) (scope_seen names.now)
+        (parameter_kind kind.now) (argument a.now) }
 {
     match kind {
         ParamKind::Ctrl(kind) => in_value(names, WITH_BOTH, *kind, a),
@@ -94,7 +104,8 @@ fn in_argument(names: &Names, kind: &ParamKind, a: &Arg) -> Findings
 
 /// What is found in the arguments for parameters.
 pub(crate) fn in_arguments(names: &Names, params: &[Param], args: &[Arg]) -> Findings
-    ensures { result ≡ found.findings_of_arguments (kinds_seen names.now) (scope_seen names.now) (map parameter params.now) (map argument args.now) }
+    ensures { result ≡ found.findings_of_arguments (kinds_seen names.now) (scope_seen names.now)
+        (map parameter params.now) (map argument args.now) }
 {
     let [p, params @ ..] = params else {
         return Findings::rule(args.is_empty());
@@ -107,7 +118,8 @@ pub(crate) fn in_arguments(names: &Names, params: &[Param], args: &[Arg]) -> Fin
 
 /// What is found in a write of a field of that kind.
 pub(crate) fn in_write(names: &Names, kind: Option<Kind>, a: &Arg) -> Findings
-    ensures { result ≡ found.findings_of_write (kinds_seen names.now) (scope_seen names.now) (option_map control_kind kind) (argument a.now) }
+    ensures { result ≡ found.findings_of_write (kinds_seen names.now) (scope_seen names.now)
+        (option_map control_kind kind) (argument a.now) }
 {
     match kind {
         Some(kind) => in_value(names, WITH_STRIDES, kind, a),

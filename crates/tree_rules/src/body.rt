@@ -9,7 +9,8 @@ ghost use Rattle.exo_modes.specs.Marks.{modes_of};
 ghost use Rattle.exo_modes.specs.Seen.{table_says};
 ghost use Rattle.tree_rules.specs.Findings as found;
 ghost use Rattle.tree_rules.specs.Seen.{sort_meant};
-ghost use Rattle.tree_rules.specs.Walked.{walk_scope, IsGround, ground_kinds, ground_memories, ground_callees};
+ghost use Rattle.tree_rules.specs.Walked.{walk_scope, IsGround, ground_kinds, ground_memories};
+ghost use Rattle.tree_rules.specs.Walked.{ground_callees};
 
 use crate::call::Ground;
 use crate::count::{are_below, are_distinct, count_block, ids_of, is_flat};
@@ -34,7 +35,8 @@ fn param_sort(kind: &ParamKind) -> Sort
 
 /// Puts parameters into scope.
 pub(crate) fn bind_params<'u>(walk: &mut Walk<'u>, params: &'u [Param]) -> Result<(), AllocError>
-    ensures scope { OnOk result (walk_scope walk.new ≡ units.scope_of (walk_scope walk.old) (map parameter params.now)) }
+    ensures scope { OnOk result
+        (walk_scope walk.new ≡ units.scope_of (walk_scope walk.old) (map parameter params.now)) }
     ensures aliases { OnOk result (walk.new.aliases.items ≡ walk.old.aliases.items) }
 {
     for p in params {
@@ -58,7 +60,9 @@ fn findings_inside<'u>(
     body: &'u Block,
 ) -> Result<Findings, AllocError>
     requires { IsGround ground.now }
-    ensures { IfOk result (λ f. f ≡ found.findings_of_block (ground_kinds ground.now) (ground_memories ground.now) (ground_callees ground.now) (units.scope_of [] params.now) (λ x. x) (block body.now)) }
+    ensures { IfOk result
+        (λ f. f ≡ found.findings_of_block (ground_kinds ground.now) (ground_memories ground.now)
+        (ground_callees ground.now) (units.scope_of [] params.now) (λ x. x) (block body.now)) }
 {
     let mut walk = Walk::new(alloc);
     bind_params(&mut walk, params.as_slice())?;
@@ -76,7 +80,8 @@ pub fn findings_of_body<'u>(
     body: &'u Block,
 ) -> Result<Findings, AllocError>
     requires { table_says modes.now ≡ modes_of (program unit.now) }
-    ensures { IfOk result (λ f. f ≡ found.findings_of_body (program unit.now) params.now (block body.now)) }
+    ensures { IfOk result
+        (λ f. f ≡ found.findings_of_body (program unit.now) params.now (block body.now)) }
 {
     let inside = findings_inside(alloc, &Ground { unit, modes }, params, body)?;
     let ids = ids_of(alloc, params.as_slice(), body)?;
@@ -96,7 +101,8 @@ pub fn findings_of_version<'u>(
     q: &'u Proc,
 ) -> Result<Findings, AllocError>
     requires { table_says modes.now ≡ modes_of (program unit.now) }
-    ensures { IfOk result (λ f. f ≡ found.findings_of_version (program unit.now) base (procedure q.now)) }
+    ensures { IfOk result
+        (λ f. f ≡ found.findings_of_version (program unit.now) base (procedure q.now)) }
 {
     let found = findings_of_body(alloc, unit, modes, &q.params, &q.body)?;
     let ids = ids_of(alloc, q.params.as_slice(), &q.body)?;

@@ -37,7 +37,8 @@ impl<'u> Ground<'u> {
 
     /// The buffer that an argument is a part of.
     fn root_of(&self, aliases: &[Alias], a: &Arg) -> Option<u32>
-        ensures { result ≡ units.root_of (ground_kinds self.now) (roots_in aliases.now) (argument a.now) }
+        ensures { result ≡ units.root_of (ground_kinds self.now) (roots_in aliases.now)
+            (argument a.now) }
     {
         match a {
             Arg::Whole(x) => Some(root(aliases, x.0)),
@@ -87,7 +88,9 @@ fn is_shared(
     params: &[Param],
     args: &[Arg],
 ) -> bool
-    ensures { result ≡ units.is_shared (ground_kinds ground.now) (writes_seen ground.now callee.0) (roots_in aliases.now) (parameter p.now) buffer (map parameter params.now) (map argument args.now) }
+    ensures { result ≡ units.is_shared (ground_kinds ground.now) (writes_seen ground.now callee.0)
+        (roots_in aliases.now) (parameter p.now) buffer (map parameter params.now)
+        (map argument args.now) }
 {
     let [q, params @ ..] = params else {
         return false;
@@ -109,7 +112,9 @@ fn share_nothing_written(
     params: &[Param],
     args: &[Arg],
 ) -> bool
-    ensures { result ≡ units.share_nothing_written (ground_kinds ground.now) (writes_seen ground.now callee.0) (roots_in aliases.now) (map parameter params.now) (map argument args.now) }
+    ensures { result ≡ units.share_nothing_written (ground_kinds ground.now)
+        (writes_seen ground.now callee.0) (roots_in aliases.now) (map parameter params.now)
+        (map argument args.now) }
 {
     let [p, params @ ..] = params else {
         return true;
@@ -122,8 +127,8 @@ fn share_nothing_written(
         && share_nothing_written(ground, aliases, callee, params, args)
 }
 
-/// Whether a call of a procedure of the unit with these parameters gives no two of them parts of one
-/// buffer, of which it writes one and one is a tensor with dimensions. The table says what each
+/// Whether a call of a procedure of the unit with these parameters gives no two of them parts of
+/// one buffer, of which it writes one and one is a tensor with dimensions. The table says what each
 /// procedure of the unit touches, and the aliases which buffer a name is a part of.
 pub fn gives_apart(
     unit: &Unit,
@@ -150,7 +155,11 @@ fn in_known_call(
     params: &Params,
     args: &Args,
 ) -> Findings
-    ensures { result ≡ both (found.findings_of_arguments (kinds_seen names.now) (scope_seen names.now) params.now args.now) (rule (units.share_nothing_written (ground_kinds ground.now) (writes_seen ground.now callee.0) (roots_in aliases.now) params.now args.now)) }
+    ensures { result ≡ both
+        (found.findings_of_arguments (kinds_seen names.now) (scope_seen names.now) params.now
+        args.now)
+        (rule (units.share_nothing_written (ground_kinds ground.now)
+        (writes_seen ground.now callee.0) (roots_in aliases.now) params.now args.now)) }
 {
     let params = params.as_slice();
     let args = args.as_slice();
@@ -168,7 +177,8 @@ pub(crate) fn in_call(
 ) -> Findings
     requires table { IsGround ground.now }
     requires fields { names.now.fields.now ≡ ground.now.unit.now.fields }
-    ensures { result ≡ found.findings_of_call (ground_kinds ground.now) (scope_seen names.now) (roots_in aliases.now) (ground_callees ground.now callee.0) args.now }
+    ensures { result ≡ found.findings_of_call (ground_kinds ground.now) (scope_seen names.now)
+        (roots_in aliases.now) (ground_callees ground.now callee.0) args.now }
 {
     match ground.unit.procs.get(callee.0 as usize) {
         Some(p) => in_known_call(ground, names, aliases, callee, &p.params, args),

@@ -11,7 +11,8 @@ ghost use Rattle.exo_meaning.specs.Units as units;
 ghost use Rattle.exo_meaning.specs.Units.{plainly, with_fields};
 ghost use Rattle.tree_rules.specs.Classes.{both, rule, limit};
 ghost use Rattle.tree_rules.specs.Findings as found;
-ghost use Rattle.tree_rules.specs.Walked.{IsGround, ground_kinds, ground_memories, ground_callees, walk_scope, walk_roots, Walked, IsBack};
+ghost use Rattle.tree_rules.specs.Walked.{IsGround, ground_kinds, ground_memories, ground_callees};
+ghost use Rattle.tree_rules.specs.Walked.{walk_scope, walk_roots, Walked, IsBack};
 
 use crate::argument::in_write;
 use crate::call::{Ground, in_call};
@@ -44,7 +45,10 @@ pub(crate) fn is_short(b: &Block) -> bool
 
 /// What is found in the header of a branch.
 fn in_test<'u>(ground: &Ground<'u>, walk: &Walk<'u>, c: &Cond, a: &Block) -> Findings
-    ensures { result ≡ both (found.findings_of_condition (ground_kinds ground.now) with_fields (walk_scope walk.now) (condition c.now)) (rule (not (units.is_empty (block a.now)))) }
+    ensures { result ≡ both
+        (found.findings_of_condition (ground_kinds ground.now) with_fields (walk_scope walk.now)
+        (condition c.now))
+        (rule (not (units.is_empty (block a.now)))) }
 {
     let names = walk.names(ground);
     in_condition(&names, WITH_FIELDS, c).and(Findings::rule(is_filled(a)))
@@ -52,7 +56,11 @@ fn in_test<'u>(ground: &Ground<'u>, walk: &Walk<'u>, c: &Cond, a: &Block) -> Fin
 
 /// What is found in the bounds of a loop.
 fn in_bounds<'u>(ground: &Ground<'u>, walk: &Walk<'u>, lo: &Ctrl, hi: &Ctrl) -> Findings
-    ensures { result ≡ both (found.findings_of_control (ground_kinds ground.now) plainly (walk_scope walk.now) (control lo.now)) (found.findings_of_control (ground_kinds ground.now) plainly (walk_scope walk.now) (control hi.now)) }
+    ensures { result ≡ both
+        (found.findings_of_control (ground_kinds ground.now) plainly (walk_scope walk.now)
+        (control lo.now))
+        (found.findings_of_control (ground_kinds ground.now) plainly (walk_scope walk.now)
+        (control hi.now)) }
 {
     let names = walk.names(ground);
     in_control(&names, PLAINLY, lo).and(in_control(&names, PLAINLY, hi))
@@ -60,7 +68,8 @@ fn in_bounds<'u>(ground: &Ground<'u>, walk: &Walk<'u>, lo: &Ctrl, hi: &Ctrl) -> 
 
 /// What is found in the variable of a loop and at its body.
 fn in_variable<'u>(ground: &Ground<'u>, walk: &Walk<'u>, i: &Binder, b: &Block) -> Findings
-    ensures { result ≡ both (found.found_in_binder (walk_scope walk.now) (binding i.now)) (rule (not (units.is_empty (block b.now)))) }
+    ensures { result ≡ both (found.found_in_binder (walk_scope walk.now) (binding i.now))
+        (rule (not (units.is_empty (block b.now)))) }
 {
     let names = walk.names(ground);
     names.binder(i).and(Findings::rule(is_filled(b)))
@@ -74,7 +83,9 @@ fn in_alloc<'u>(
     dims: &Indices,
     memory: MemId,
 ) -> Findings
-    ensures { result ≡ found.findings_of_alloc (ground_kinds ground.now) (ground_memories ground.now) (ground_callees ground.now) (walk_scope walk.now) (binding x.now) dims.now memory.0 }
+    ensures { result ≡ found.findings_of_alloc (ground_kinds ground.now)
+        (ground_memories ground.now) (ground_callees ground.now) (walk_scope walk.now)
+        (binding x.now) dims.now memory.0 }
 {
     let names = walk.names(ground);
     let extents = names.binder(x).and(in_controls(&names, dims.as_slice()));
@@ -92,7 +103,10 @@ fn has_span(coords: &Coords) -> bool
 
 /// What is found in a view.
 fn in_view<'u>(ground: &Ground<'u>, walk: &Walk<'u>, w: &Binder, x: Id, coords: &Coords) -> Findings
-    ensures { result ≡ both (found.found_in_binder (walk_scope walk.now) (binding w.now)) (both (found.findings_of_window (ground_kinds ground.now) (walk_scope walk.now) x.0 coords.now) (rule (nat_lt 0 (units.spans coords.now)))) }
+    ensures { result ≡ both (found.found_in_binder (walk_scope walk.now) (binding w.now))
+        (both
+        (found.findings_of_window (ground_kinds ground.now) (walk_scope walk.now) x.0 coords.now)
+        (rule (nat_lt 0 (units.spans coords.now)))) }
 {
     let names = walk.names(ground);
     let window = in_window(&names, x, coords.as_slice());
@@ -102,7 +116,9 @@ fn in_view<'u>(ground: &Ground<'u>, walk: &Walk<'u>, w: &Binder, x: Id, coords: 
 
 /// What is found in an assignment or a reduction.
 fn in_store<'u>(ground: &Ground<'u>, walk: &Walk<'u>, x: Id, at: &Indices, e: &DataExpr) -> Findings
-    ensures { result ≡ both (found.findings_of_access (ground_kinds ground.now) (walk_scope walk.now) x.0 at.now) (found.findings_of_datum (ground_kinds ground.now) (walk_scope walk.now) (datum e.now)) }
+    ensures { result ≡ both
+        (found.findings_of_access (ground_kinds ground.now) (walk_scope walk.now) x.0 at.now)
+        (found.findings_of_datum (ground_kinds ground.now) (walk_scope walk.now) (datum e.now)) }
 {
     let names = walk.names(ground);
     in_access(&names, x, at.as_slice()).and(in_datum(&names, e))
@@ -110,7 +126,8 @@ fn in_store<'u>(ground: &Ground<'u>, walk: &Walk<'u>, x: Id, at: &Indices, e: &D
 
 /// What is found in a write of a configuration field.
 fn in_config<'u>(ground: &Ground<'u>, walk: &Walk<'u>, f: FieldId, a: &Arg) -> Findings
-    ensures { result ≡ found.findings_of_write (ground_kinds ground.now) (walk_scope walk.now) (ground_kinds ground.now f.0) (argument a.now) }
+    ensures { result ≡ found.findings_of_write (ground_kinds ground.now) (walk_scope walk.now)
+        (ground_kinds ground.now f.0) (argument a.now) }
 {
     let names = walk.names(ground);
     in_write(&names, names.kind(f), a)
@@ -119,7 +136,8 @@ fn in_config<'u>(ground: &Ground<'u>, walk: &Walk<'u>, f: FieldId, a: &Arg) -> F
 /// What is found in a call.
 fn in_call_there<'u>(ground: &Ground<'u>, walk: &Walk<'u>, k: ProcId, args: &Args) -> Findings
     requires { IsGround ground.now }
-    ensures { result ≡ found.findings_of_call (ground_kinds ground.now) (walk_scope walk.now) (walk_roots walk.now) (ground_callees ground.now k.0) args.now }
+    ensures { result ≡ found.findings_of_call (ground_kinds ground.now) (walk_scope walk.now)
+        (walk_roots walk.now) (ground_callees ground.now k.0) args.now }
 {
     let names = walk.names(ground);
     in_call(ground, &names, walk.aliases.as_slice(), k, args)
@@ -134,8 +152,11 @@ fn over_alloc<'u>(
     dims: &Indices,
     memory: MemId,
 ) -> Result<Findings, AllocError>
-    ensures found { IfOk result (λ f. f ≡ found.findings_of_alloc (ground_kinds ground.now) (ground_memories ground.now) (ground_callees ground.now) (walk_scope walk.old) (binding x.now) dims.now memory.0) }
-    ensures walked { OnOk result (Walked walk.old walk.new (tree.Alloc (binding x.now) (cell_type cell) dims.now memory.0)) }
+    ensures found { IfOk result
+        (λ f. f ≡ found.findings_of_alloc (ground_kinds ground.now) (ground_memories ground.now)
+        (ground_callees ground.now) (walk_scope walk.old) (binding x.now) dims.now memory.0) }
+    ensures walked { OnOk result (Walked walk.old walk.new
+        (tree.Alloc (binding x.now) (cell_type cell) dims.now memory.0)) }
 {
     let found = in_alloc(ground, walk, x, dims, memory);
     walk_alloc(walk, x, cell, dims, memory)?;
@@ -150,8 +171,13 @@ fn over_view<'u>(
     x: Id,
     coords: &Coords,
 ) -> Result<Findings, AllocError>
-    ensures found { IfOk result (λ f. f ≡ both (found.found_in_binder (walk_scope walk.old) (binding w.now)) (both (found.findings_of_window (ground_kinds ground.now) (walk_scope walk.old) x.0 coords.now) (rule (nat_lt 0 (units.spans coords.now))))) }
-    ensures walked { OnOk result (Walked walk.old walk.new (tree.View (binding w.now) x.0 coords.now)) }
+    ensures found { IfOk result
+        (λ f. f ≡ both (found.found_in_binder (walk_scope walk.old) (binding w.now))
+        (both
+        (found.findings_of_window (ground_kinds ground.now) (walk_scope walk.old) x.0 coords.now)
+        (rule (nat_lt 0 (units.spans coords.now))))) }
+    ensures walked { OnOk result
+        (Walked walk.old walk.new (tree.View (binding w.now) x.0 coords.now)) }
 {
     let found = in_view(ground, walk, w, x, coords);
     walk_view(walk, w, x, coords)?;
@@ -173,7 +199,9 @@ fn walk_statement<'u>(
     s: &'u Stmt,
 ) -> Result<Findings, AllocError>
     requires { IsGround ground.now }
-    ensures found { IfOk result (λ f. f ≡ found.findings_of_statement (ground_kinds ground.now) (ground_memories ground.now) (ground_callees ground.now) (walk_scope walk.old) (walk_roots walk.old) (statement s.now)) }
+    ensures found { IfOk result (λ f. f ≡ found.findings_of_statement (ground_kinds ground.now)
+        (ground_memories ground.now) (ground_callees ground.now) (walk_scope walk.old)
+        (walk_roots walk.old) (statement s.now)) }
     ensures walked { OnOk result (Walked walk.old walk.new (statement s.now)) }
 {
     match s {
@@ -198,7 +226,12 @@ fn walk_if<'u>(
     b: &'u Block,
 ) -> Result<Findings, AllocError>
     requires { IsGround ground.now }
-    ensures found { IfOk result (λ f. f ≡ found.findings_of_statement (ground_kinds ground.now) (ground_memories ground.now) (ground_callees ground.now) (walk_scope walk.old) (walk_roots walk.old) (tree.If (condition c.now) (block a.now) (block b.now))) }
+    ensures found { IfOk result (λ f. f ≡ found.findings_of_statement (ground_kinds ground.now)
+        (ground_memories ground.now)
+        (ground_callees ground.now)
+        (walk_scope walk.old)
+        (walk_roots walk.old)
+        (tree.If (condition c.now) (block a.now) (block b.now))) }
     ensures back { OnOk result (IsBack walk.old walk.new) }
 {
     let test = in_test(ground, walk, c, a);
@@ -218,7 +251,12 @@ fn walk_loop<'u>(
     b: &'u Block,
 ) -> Result<Findings, AllocError>
     requires { IsGround ground.now }
-    ensures found { IfOk result (λ f. f ≡ found.findings_of_statement (ground_kinds ground.now) (ground_memories ground.now) (ground_callees ground.now) (walk_scope walk.old) (walk_roots walk.old) (tree.For (binding i.now) (control lo.now) (control hi.now) (block b.now))) }
+    ensures found { IfOk result (λ f. f ≡ found.findings_of_statement (ground_kinds ground.now)
+        (ground_memories ground.now)
+        (ground_callees ground.now)
+        (walk_scope walk.old)
+        (walk_roots walk.old)
+        (tree.For (binding i.now) (control lo.now) (control hi.now) (block b.now))) }
     ensures back { OnOk result (IsBack walk.old walk.new) }
 {
     let variable = in_variable(ground, walk, i, b);
@@ -238,7 +276,9 @@ fn walk_branch<'u>(
     b: &'u Block,
 ) -> Result<Findings, AllocError>
     requires { IsGround ground.now }
-    ensures found { IfOk result (λ f. f ≡ both (limit (units.is_short (block b.now))) (found.findings_of_block (ground_kinds ground.now) (ground_memories ground.now) (ground_callees ground.now) (walk_scope walk.old) (walk_roots walk.old) (block b.now))) }
+    ensures found { IfOk result (λ f. f ≡ both (limit (units.is_short (block b.now)))
+        (found.findings_of_block (ground_kinds ground.now) (ground_memories ground.now)
+        (ground_callees ground.now) (walk_scope walk.old) (walk_roots walk.old) (block b.now))) }
     ensures back { OnOk result (IsBack walk.old walk.new) }
 {
     let short = Findings::limit(is_short(b));
@@ -254,7 +294,9 @@ pub(crate) fn walk_block<'u>(
     b: &'u Block,
 ) -> Result<Findings, AllocError>
     requires { IsGround ground.now }
-    ensures found { IfOk result (λ f. f ≡ found.findings_of_block (ground_kinds ground.now) (ground_memories ground.now) (ground_callees ground.now) (walk_scope walk.old) (walk_roots walk.old) (block b.now)) }
+    ensures found { IfOk result
+        (λ f. f ≡ found.findings_of_block (ground_kinds ground.now) (ground_memories ground.now)
+        (ground_callees ground.now) (walk_scope walk.old) (walk_roots walk.old) (block b.now)) }
     ensures back { OnOk result (IsBack walk.old walk.new) }
 {
     let named = walk.entries.len();

@@ -15,7 +15,8 @@ use exo_modes::{Alias, root, set_root};
 use exo_tree::{Binder, Cell, Coords, Id, Indices, MemId};
 use std::alloc::{AllocError, Global};
 
-/// What a walk through a body knows: the names in scope, the innermost last, and the buffers of views.
+/// What a walk through a body knows: the names in scope, the innermost last, and the buffers of
+/// views.
 #[derive(Drop)]
 pub(crate) struct Walk<'u> {
     pub(crate) entries: Vec<Entry<'u>>,
@@ -36,8 +37,10 @@ impl<'u> Walk<'u> {
 
     /// Puts a name into scope.
     pub(crate) fn bind(&mut self, binder: &'u Binder, sort: Sort) -> Result<(), AllocError>
-        ensures entries { OnOk result (self.new.entries.items ≡ self.old.entries.items ++ record { binder = binder.entry; sort = sort } ∷ []) }
-        ensures scope { OnOk result (walk_scope self.new ≡ with_name (walk_scope self.old) (binding binder.now) (sort_meant sort)) }
+        ensures entries { OnOk result (self.new.entries.items
+            ≡ self.old.entries.items ++ record { binder = binder.entry; sort = sort } ∷ []) }
+        ensures scope { OnOk result (walk_scope self.new
+            ≡ with_name (walk_scope self.old) (binding binder.now) (sort_meant sort)) }
         ensures aliases { OnOk result (self.new.aliases.items ≡ self.old.aliases.items) }
     {
         self.entries.push(Entry { binder, sort })?;
@@ -74,7 +77,8 @@ pub(crate) fn walk_alloc<'u>(
     dims: &Indices,
     memory: MemId,
 ) -> Result<(), AllocError>
-    ensures { OnOk result (Walked walk.old walk.new (tree.Alloc (binding x.now) (cell_type cell) dims.now memory.0)) }
+    ensures { OnOk result (Walked walk.old walk.new
+        (tree.Alloc (binding x.now) (cell_type cell) dims.now memory.0)) }
 {
     walk.bind(x, Sort::Buffer(cell, dims.len(), true))?;
     set_root(&mut walk.aliases, x.id.0, x.id.0)

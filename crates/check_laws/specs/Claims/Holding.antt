@@ -1,6 +1,8 @@
 -- Where claims hold, and which procedures a run comes to.
-use Rattle.std.specs.Prelude.{◌≡◌, ◌==◌, ℕ, Bool, true, false, ◌||◌, ⊤, Option, Some, None, slice_get}
-use Rattle.exo_tree.specs.Tree.{Condition, Statement, Assign, Reduce, Config, Pass, If, For, Alloc, View, Call, Block, end, next, Procedure, Program}
+use Rattle.std.specs.Prelude.{◌≡◌, ◌==◌, ℕ, Bool, true, false, ◌||◌, ⊤, Option, Some, None}
+use Rattle.std.specs.Prelude.{slice_get}
+use Rattle.exo_tree.specs.Tree.{Condition, Statement, Assign, Reduce, Config, Pass, If, For, Alloc}
+use Rattle.exo_tree.specs.Tree.{View, Call, Block, end, next, Procedure, Program}
 use Rattle.exo_tree.specs.Calls.{call_arguments}
 use Rattle.exo_tree.specs.Places.{Opened, opened}
 use Rattle.exo_meaning.specs.Scene.{holds}
@@ -16,14 +18,14 @@ use Rattle.meaning_laws.specs.Sorted.{scope_there}
 use Rattle.check_claims.specs.Claim.{Claim, Is, Apart, Placed}
 use Rattle.check_claims.specs.Claims.{claims_of}
 
--- a condition holds wherever a run of the procedure on an admissible input comes to the place; the place of no statement is the one
--- before the body, where the input itself is
+-- a condition holds wherever a run of the procedure on an admissible input comes to the place; the
+-- place of no statement is the one before the body, where the input itself is
 abbrev pub HoldsAtPlace : World → Procedure → Option Opened → Condition → Type 0
 HoldsAtPlace world p None c = (s : State) → IsAdmissible world p s → holds s.scene c ≡ true
 HoldsAtPlace world p (Some o) c = HoldsAt world p o.piece o.around c
 
--- wherever a run of the procedure on an admissible input comes to the call at the place, these of its
--- arguments have no cell in common
+-- wherever a run of the procedure on an admissible input comes to the call at the place, these of
+-- its arguments have no cell in common
 abbrev pub ApartAtPlace : World → Procedure → Option Opened → ℕ → ℕ → Type 0
 ApartAtPlace world p None j k = ⊤
 ApartAtPlace world p (Some o) j k =
@@ -42,7 +44,10 @@ ClaimHolds world p c = SaidHolds world p (opened 1 c.place p.body) c.claim
 
 -- all claims of the procedure of that number
 abbrev pub ClaimsHold : Program → ℕ → Type 0
-ClaimsHold u k = (p : Procedure) → slice_get u.procedures k ≡ Some p → Each (ClaimHolds (program_world u) p) (claims_of u p)
+ClaimsHold u k =
+    (p : Procedure)
+    → slice_get u.procedures k ≡ Some p
+    → Each (ClaimHolds (program_world u) p) (claims_of u p)
 
 -- a condition is one over the names in scope
 abbrev pub SaidIsFormed : Program → Scope → Claim → Type 0
@@ -70,7 +75,13 @@ abbrev mutual
   step_calls (View w x coords) k = false
   step_calls (Call j args) k = k == j
 
--- from one procedure of the unit to another: the procedure itself, and what it calls, directly or not
+-- from one procedure of the unit to another: the procedure itself, and what it calls, directly or
+-- not
 pub data LeadsTo (u : Program) : ℕ → ℕ → Type 0 where
   itself : {k : ℕ} → LeadsTo u k k
-  by_call : {k j i : ℕ} {p : Procedure} → slice_get u.procedures k ≡ Some p → calls p.body j ≡ true → LeadsTo u j i → LeadsTo u k i
+  by_call :
+      {k j i : ℕ} {p : Procedure}
+      → slice_get u.procedures k ≡ Some p
+      → calls p.body j ≡ true
+      → LeadsTo u j i
+      → LeadsTo u k i
