@@ -8,7 +8,7 @@ use Rattle.bounds_check.specs.Obligations.{obligations_of, list_fault}
 use Rattle.tree_laws.specs.Findings.Versions.{with_version}
 use Rattle.owed_laws.specs.Renamed.{OwesTheSame, renamed, RenamedOwesTheSame}
 
-abbrev named : ℕ → List ℕ → Binder
+abbrev pub named : ℕ → List ℕ → Binder
 named n name = record { id = n; name = name }
 
 abbrev set : Procedure
@@ -35,7 +35,7 @@ go = record {
   template = None;
 }
 
-abbrev plain_memory : MemoryKind
+abbrev pub plain_memory : MemoryKind
 plain_memory = record {
   name = codes "DRAM";
   ctype = [];

@@ -12,10 +12,10 @@ use Rattle.meaning_laws.specs.Grown.{calls_below, step_calls_below}
 use Rattle.meaning_laws.specs.KnownFields.{KnownFields, Telling, path_in, forgotten, agreed, after, at_end, known_at}
 use Rattle.meaning_laws.specs.PlaceFacts.{PlaceFact, facts_round}
 
-abbrev holding : KnownFields → Condition → PlaceFact
+abbrev pub holding : KnownFields → Condition → PlaceFact
 holding known c = record { known = known; fact = Holds c }
 
-abbrev failing : KnownFields → Condition → PlaceFact
+abbrev pub failing : KnownFields → Condition → PlaceFact
 failing known c = record { known = known; fact = Fails c }
 
 -- calls of procedures below that number write what they write by the other table

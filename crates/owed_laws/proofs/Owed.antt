@@ -1,7 +1,7 @@
 -- What a procedure owes, whatever comes behind the procedures that it calls and whatever its name is.
-use Rattle.std.proofs.Common.{◌≡◌, ◌++◌, ◌&&◌, ℕ, zero, Bool, List, [], ◌∷◌, map, length, Option, None, Some}
+use Rattle.std.proofs.Common.{◌≡◌, ◌++◌, ℕ, zero, Bool, List, [], ◌∷◌, map, length, Option, None, Some}
 use Rattle.std.proofs.Common.{true, refl, sym, ap, ◌∙◌, subst}
-use Rattle.std.specs.Prelude.{flat_map, slice_get, if◌then◌else◌}
+use Rattle.std.specs.Prelude.{slice_get}
 use Rattle.std.specs.List.{list_all}
 use Rattle.exo_tree.specs.Tree.{Condition, Argument, Procedure, Program}
 use Rattle.exo_tree.specs.Calls.{call_arguments}
@@ -9,7 +9,7 @@ use Rattle.exo_tree.specs.Context.{fill}
 use Rattle.exo_tree.specs.Places.{Main, Path, Opened, opened}
 use Rattle.exo_meaning.specs.Modes.{Writing}
 use Rattle.exo_meaning.specs.Run.{callees, kinds_of}
-use Rattle.exo_meaning.specs.Units.{field_kind}
+use Rattle.exo_meaning.specs.Units.{IsUnit, field_kind}
 use Rattle.meaning_laws.specs.Facts.{Fact, Holds, Fails}
 use Rattle.meaning_laws.specs.Grown.{calls_below}
 use Rattle.meaning_laws.specs.Known.{params_facts}
@@ -17,31 +17,21 @@ use Rattle.meaning_laws.specs.KnownFields.{KnownFields, Telling, at_entry}
 use Rattle.meaning_laws.specs.Places.{OpenedLaw}
 use Rattle.meaning_laws.specs.UnitFields.{unit_writes}
 use Rattle.meaning_laws.specs.WellFormed.{CallsAreBelow}
-use Rattle.affine_forms.specs.Formulas.{Formula}
-use Rattle.affine_systems.specs.Systems.{systems, stated}
-use Rattle.affine_systems.specs.Outcomes.{Owed, owed}
 use Rattle.text_show.specs.Layout.{Text}
 use Rattle.text_show.specs.Words.{callee_name, words_of}
-use Rattle.check_claims.specs.Claim.{Claim, Is, Apart, Placed}
 use Rattle.check_claims.specs.Claims.{claims_of}
 use Rattle.check_facts.specs.Contexts.{telling, condition_formula, condition_fits, fact_formula, fact_fits}
 use Rattle.check_facts.specs.Contexts.{formulas, all_fit, facts_at, context_of, context_fits, known_at_place}
 use Rattle.exo_effects.specs.Accesses.{Access, access_of}
-use Rattle.exo_effects.specs.Conflicts.{clashing, past_these, conflicts_of}
-use Rattle.exo_effects.specs.Conflicts as conflict
-use Rattle.exo_effects.specs.Orders.{no_order}
 use Rattle.exo_effects.specs.Uses.{Use, uses_of, part_of_argument, at_hole}
-use Rattle.bounds_check.specs.Limits.{are_within}
-use Rattle.bounds_check.specs.Obligations.{Wide, known_for, formula_at, argument_accesses}
-use Rattle.bounds_check.specs.Obligations.{claim_owed, owed_for, obligations_of, said_fits}
-use Rattle.bounds_check.specs.Obligations.{stated_fault, listing_fault, unless_refused, said_fault, claim_fault}
-use Rattle.bounds_check.specs.Obligations.{first_fault, list_fault}
-use Rattle.tree_laws.specs.Findings.Versions.{ProcedureLaw}
+use Rattle.bounds_check.specs.Obligations.{known_for, formula_at, argument_accesses, owed_for_all, first_fault}
+use Rattle.tree_laws.specs.Findings.Versions.{with_version, ProcedureLaw}
 use Rattle.owed_laws.specs.Renamed.{renamed, RenamedOwesTheSame}
 use Rattle.owed_laws.proofs.Texts.{argument_same}
 use Rattle.owed_laws.proofs.Tables.{writes_same, callees_are}
 use Rattle.owed_laws.proofs.Known.{known_same, round_same}
 use Rattle.owed_laws.proofs.Claims.{longer, claims_same}
+use Rattle.owed_laws.proofs.Alike.{SaysTheSame, all_owed_same, first_same}
 
 module _ (opens : OpenedLaw) (u : Program) (more : List Procedure) (p : Procedure) (name : List ℕ)
     (below : calls_below (length u.procedures) p.body ≡ true) where
@@ -126,62 +116,37 @@ module _ (opens : OpenedLaw) (u : Program) (more : List Procedure) (p : Procedur
       λ i. argument_by path k
       (λ a. argument_same (words_of u p) (callee_name (u.procedures ++ more)) a i)
 
-  abbrev pair_by : Path → List Formula → List Access → List Access → List Owed
-  pair_by path ctx xs ys =
-      flat_map (conflict.owed_for ctx no_order path (past_these ctx no_order xs ys)) (clashing xs ys)
+  fits_same : (path : Path) (c : Condition)
+      → condition_fits v q (known_for v q path) c ≡ condition_fits u p (known_for u p path) c
+  fits_same path c = λ i. condition_fits u p (known_for_same path i) c
 
-  claim_same : (path : Path) (c : Claim) → claim_owed v q path c ≡ claim_owed u p path c
-  claim_same path (Is c text) =
-      λ i. map (owed text path) (systems (context_same path i) (formula_same path c i))
-  claim_same path (Apart j k) =
-      λ i. pair_by path (context_same path i) (accesses_same path j i) (accesses_same path k i)
+  pub says_same : SaysTheSame v q u p
+  says_same = record {
+    context = context_same;
+    context_fits = context_fits_same;
+    formula = formula_same;
+    fits = fits_same;
+    accesses = accesses_same;
+  }
 
-  owed_same : (c : Placed) → owed_for v q c ≡ owed_for u p c
-  owed_same c = claim_same c.place c.claim
-
-  pub obligations_same : obligations_of v q ≡ obligations_of u p
-  obligations_same = λ i. flat_map (λ c. owed_same c i) (claims_same u more p name below i)
-
-  -- ---- refusals
-
-  said_fits_same : (path : Path) (c : Claim) → said_fits v q path c ≡ said_fits u p path c
-  said_fits_same path (Is c text) = λ i. condition_fits u p (known_for_same path i) c
-  said_fits_same path (Apart j k) = refl
-
-  said_fault_same : (path : Path) (c : Claim) → said_fault v q path c ≡ said_fault u p path c
-  said_fault_same path (Is c text) =
-      λ i. stated_fault (stated (context_same path i) (formula_same path c i))
-  said_fault_same path (Apart j k) =
-      λ i. listing_fault (conflicts_of (context_fits_same path i) (context_same path i) no_order path
-      (accesses_same path j i) (accesses_same path k i))
-
-  claim_fault_same : (c : Placed) → claim_fault v q c ≡ claim_fault u p c
-  claim_fault_same c =
-      λ i. if context_fits_same c.place i && said_fits_same c.place c.claim i
-      then said_fault_same c.place c.claim i else Some Wide
-
-  first_same : (os : List Owed) (cs : List Placed) → first_fault v q os cs ≡ first_fault u p os cs
-  first_same os [] = refl
-  first_same os (c ∷ cs) =
-      (λ i. unless_refused (claim_fault_same c i) (are_within (os ++ owed_same c i))
-      (first_fault v q (os ++ owed_same c i) cs))
-      ∙ ap (unless_refused (claim_fault u p c) (are_within (os ++ owed_for u p c)))
-      (first_same (os ++ owed_for u p c) cs)
-
-  pub fault_same : list_fault v q ≡ list_fault u p
-  fault_same =
-      ap (first_fault v q []) (claims_same u more p name below) ∙ first_same [] (claims_of u p)
+-- a procedure of a unit calls those of the unit alone
+pub calls_are_below : CallsAreBelow → ProcedureLaw → (u : Program) (k : ℕ) (p : Procedure) → IsUnit u
+    → slice_get u.procedures k ≡ Some p → calls_below (length u.procedures) p.body ≡ true
+calls_are_below calls keeps u k p is there =
+    let kinds = kinds_of u.fields in
+    subst (λ n. calls_below n p.body ≡ true) (callees_are kinds u.procedures)
+    (calls (field_kind u.fields) (length u.memories) (callees kinds [] u.procedures) p
+    (keeps u k p is there))
 
 module _ (opens : OpenedLaw) (calls : CallsAreBelow) (keeps : ProcedureLaw) where
   pub renamed_owes : RenamedOwesTheSame
   renamed_owes u k p name is there =
-      let kinds = kinds_of u.fields in
-      let below : calls_below (length u.procedures) p.body ≡ true =
-      subst (λ n. calls_below n p.body ≡ true) (callees_are kinds u.procedures)
-      (calls (field_kind u.fields) (length u.memories) (callees kinds [] u.procedures) p
-      (keeps u k p is there)) in
-      let more = renamed name p ∷ [] in
+      let below = calls_are_below calls keeps u k p is there in
+      let q = renamed name p in
+      let v = with_version u q in
+      let says = says_same opens u (q ∷ []) p name below in
+      let claims = claims_same u (q ∷ []) p name below in
       record {
-        owed = obligations_same opens u more p name below;
-        fault = fault_same opens u more p name below;
+        owed = ap (owed_for_all v q) claims ∙ all_owed_same v q u p says (claims_of u p);
+        fault = ap (first_fault v q []) claims ∙ first_same v q u p says [] (claims_of u p);
       }

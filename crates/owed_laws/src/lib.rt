@@ -1,4 +1,4 @@
-//! A version that differs from an earlier one by its name alone owes what that one owes.
+//! A version that differs by its name or by one store owes what the earlier one owes elsewhere.
 #![tactic(auto)]
 
 pub mod laws;
