@@ -185,7 +185,8 @@ impl<'a> Gathering<'a> {
             return Ok(());
         }
         if let Atom::Quotient(q) = atom {
-            self.explain_all(alloc, &q.terms(alloc)?)?;
+            let terms = q.terms(alloc)?;
+            self.explain_all(alloc, &terms)?;
         }
         self.state_own(alloc, atom)
     }

@@ -32,6 +32,12 @@ fits_small by f = fits_within (by -ℤ pos 1) (within_from_le (2 ^ 126) (by -ℤ
 fits_all : (by n : ℤ) → FitsSigned w64 by → is_within (2 ^ 64) n ≡ true → FitsSigned w128 ((by -ℤ pos 1) -ℤ n)
 fits_all by n f h = fits_within ((by -ℤ pos 1) -ℤ n) (within_from_le (2 ^ 126) ((by -ℤ pos 1) -ℤ n) (omega (arith, within_le (2 ^ 66) ((by -ℤ pos 1) -ℤ n) (within by n f h))))
 
+pub overflow_sub-result-2 : goal.overflow_sub-result-2
+overflow_sub-result-2 c =
+    let fb = c.ranges.by in
+    let f128 = fits_64 c.args.by fb in
+    rw (to_z-of_z w64 c.args.by fb, to_z-of_z w128 c.args.by f128, to_z-of_z w128 (c.args.by -ℤ pos 1) (fits_small c.args.by fb), to_z-of_z w128 c.args.n c.ranges.n) (fits_all c.args.by c.args.n fb c.requires.constant)
+
 pub invariant_of-result : goal.invariant_of-result
 invariant_of-result c =
     let fb = c.ranges.by in
