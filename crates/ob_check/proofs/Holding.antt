@@ -21,7 +21,7 @@ sums_decide : (a b : Affine) → Decides (same_sum a b) (a ≡ b)
 sums_decide a b =
     Decides-like (same_sum a b) (λ p i. record { constant = p.0 i; coefficients = p.1 i }) (λ e. (ap (λ s. s.constant) e, ap (λ s. s.coefficients) e)) (Decides-and (int_eq a.constant b.constant) (pointwise int_eq a.coefficients b.coefficients) (Decides-int_eq a.constant b.constant) (pointwise_decides Decides-int_eq a.coefficients b.coefficients))
 
-constraints_decide : (s t : Constraints) → Decides (same_system s t) (s ≡ t)
+pub constraints_decide : (s t : Constraints) → Decides (same_system s t) (s ≡ t)
 constraints_decide s t =
     Decides-like (same_system s t) (λ p i. record { variables = p.0 i; equations = p.1.0 i; rows = p.1.1 i }) (λ e. (ap (λ c. c.variables) e, (ap (λ c. c.equations) e, ap (λ c. c.rows) e)))
     (Decides-and (s.variables == t.variables) (pointwise same_sum s.equations t.equations && pointwise same_sum s.rows t.rows) (Decides-eqb s.variables t.variables) (Decides-and (pointwise same_sum s.equations t.equations) (pointwise same_sum s.rows t.rows) (pointwise_decides sums_decide s.equations t.equations) (pointwise_decides sums_decide s.rows t.rows)))

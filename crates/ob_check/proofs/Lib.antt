@@ -9,3 +9,6 @@ mod Truths
 mod Answering
 mod Looking
 mod Chunks
+mod Promoting
+mod Settling
+mod Examples

@@ -1,7 +1,7 @@
 -- Lists whose elements agree in what a function makes of them, and what holds of each element.
-use Rattle.std.proofs.Common.{◌≡◌, ℕ, ◌+◌, ◌-◌, ◌<◌, List, [], ◌∷◌, ◌++◌, map, take, drop, length, get_or, Contains, All, refl, sym, ap, ap₂, ◌∙◌, subst, arith, add-one, append_assoc, drop-cons, Result, Ok, Err, OnOk}
-use Rattle.std.specs.Prelude.{slice_range, OnErr}
-use Rattle.std.proofs.lemmas.List.{get_or_default, map-append, drop-drop, take-append-drop}
+use Rattle.std.proofs.Common.{◌≡◌, ℕ, ◌+◌, ◌<◌, List, [], ◌∷◌, map, drop, length, get_or, Contains, All, refl, sym, ap, ap₂, ◌∙◌, subst, add-one, drop-cons, Result, Ok, Err, OnOk}
+use Rattle.std.specs.Prelude.{OnErr}
+use Rattle.std.proofs.lemmas.List.{get_or_default}
 
 -- where g agrees on the elements of two lists, so does what follows from it
 pub map_through : {A B C : Type 0} (g : A → B) (f : B → C) (xs ys : List A) → map g xs ≡ map g ys → map (λ x. f (g x)) xs ≡ map (λ x. f (g x)) ys

@@ -8,6 +8,7 @@ use crate::found::Found;
 use crate::known::Known;
 use affine_forms::System;
 use affine_prover::Verdict;
+use affine_systems::Obligation;
 use lru::LruCache;
 use std::alloc::{AllocError, Global};
 use std::num::NonZeroUsize;
@@ -36,11 +37,12 @@ pub struct Cache {
 }
 
 impl Cache {
-    ghost use Rattle.std.specs.Prelude.{◌≡◌, [], map, fold, IfOk, OnOk};
+    ghost use Rattle.std.specs.Prelude.{◌≡◌, not, [], map, fold, IfOk, OnOk};
     ghost use Rattle.affine_forms.specs.System.{plain_system};
     ghost use Rattle.ob_check.specs.Entries.{asked, is_missing, kept};
     ghost use Rattle.ob_check.specs.Held.{held};
-    ghost use Rattle.ob_check.specs.Systems.{system_known, system_found, was_missing};
+    ghost use Rattle.ob_check.specs.Settled.{knows_all};
+    ghost use Rattle.ob_check.specs.Systems.{systems_of, system_known, system_found, was_missing};
 
     /// A cache that keeps nothing yet.
     pub(crate) fn empty(alloc: Global) -> Result<Cache, AllocError>
@@ -61,6 +63,26 @@ impl Cache {
             Some(verdict) => Found::Kept(Known { system, verdict }),
             None => Found::Missing(system),
         }
+    }
+
+    /// Whether it keeps the verdict on a system.
+    fn knows(&self, system: &System) -> bool
+        ensures { result ≡ not (is_missing (held self.now) (plain_system system.now)) }
+    {
+        self.verdicts.contains(system)
+    }
+
+    /// Whether it keeps the verdict on the system of each obligation; none of them comes first by
+    /// that.
+    pub fn knows_all(&self, obs: &[Obligation]) -> bool
+        ensures { result ≡ knows_all (held self.now) (systems_of obs.now) }
+    {
+        for o in obs {
+            if !self.knows(&o.system) {
+                return false;
+            }
+        }
+        true
     }
 
     /// Keeps a verdict, if its system is small enough.

@@ -9,6 +9,7 @@ mod decide;
 mod found;
 mod gate;
 mod known;
+pub mod laws;
 mod obligations;
 
 pub use answer::Answer;
