@@ -10,3 +10,4 @@ pub mod Listings
 pub mod Places
 pub mod Answered
 mod Bounds
+mod Turns
