@@ -157,6 +157,7 @@ impl Running {
             ∷ [])) }
     {
         let owed = obligations_with_tables(
+            rt,
             alloc,
             &self.session.unit,
             &self.writes,

@@ -9,3 +9,4 @@ pub mod Found
 pub mod Numbered
 pub mod Placed
 pub mod Caching
+mod Parted

@@ -1,5 +1,5 @@
 //! The check of a unit.
-ghost use Rattle.std.specs.Prelude.{◌≡◌, ◌≤◌, All, IfOk, OnOk, Some, length, map, slice_get};
+ghost use Rattle.std.specs.Prelude.{◌≡◌, ◌≤◌, List, All, IfOk, OnOk, Some, length, map, slice_get};
 ghost use Rattle.exo_tree.specs.Tree.{Procedure};
 ghost use Rattle.exo_tree.specs.PlainUnit.{program};
 ghost use Rattle.exo_meaning.specs.Units.{IsUnit};
@@ -7,8 +7,10 @@ ghost use Rattle.meaning_laws.specs.UnitFields.{unit_writes};
 ghost use Rattle.config_state.specs.FieldSets.{IsTable};
 ghost use Rattle.exo_modes.specs.Marks.{modes_of};
 ghost use Rattle.exo_modes.specs.Seen.{table_says};
-ghost use Rattle.affine_forms.specs.Affine.{HasNoIntegerPoint};
+ghost use Rattle.affine_forms.specs.Affine.{Constraints, HasNoIntegerPoint};
+ghost use Rattle.affine_prover.specs.declared.answer.Verdict.{Verdict};
 ghost use Rattle.bounds_check.specs.Obligations.{Fault, obligations_of};
+ghost use Rattle.bounds_check.specs.Parts.{IsListed, listed_of};
 ghost use Rattle.ob_check.specs.Entries.{discharged};
 ghost use Rattle.ob_check.specs.Held.{held};
 ghost use Rattle.unit_check.specs.declared.refused.Why.TheVariants.{Memory};
@@ -17,11 +19,12 @@ ghost use Rattle.unit_check.specs.Checked.{NotListed, cause_of, checked, AllHold
 ghost use Rattle.unit_check.specs.Cached.{discharged_all, systems_in};
 ghost use Rattle.unit_check.specs.Outcomes.{IsChecked, Answers, IsOf, place_in};
 ghost use Rattle.unit_check.specs.Faults.{NothingFaults};
+ghost use Rattle.unit_check.specs.Parts.{AreShown, TakesAll};
 
 use crate::laws::shown_procedures_do_not_fault;
 use crate::refused::{UnitRefused, Why};
-use crate::showing::show;
-use bounds_check::{CheckError, obligations_with_tables};
+use crate::showing::Showing;
+use bounds_check::{CheckError, Listing};
 use config_state::{FieldTable, written_table};
 use exo_modes::ModeTable;
 use exo_tree::{Path, ProcId, Unit};
@@ -72,6 +75,29 @@ fn not_shown(p: ProcId, why: Why) -> UnitRefused
     }
 }
 
+/// Lists what a procedure owes and shows it, part by part. Each part is dropped before the next one
+/// is made, also once something is not shown: a list that can't be made is told first.
+fn take_all<R: Threads + Sync, G: Gate>(
+    rt: &R,
+    alloc: Global,
+    listing: &mut Listing<'_>,
+    showing: &mut Showing,
+    cache: &mut Cache,
+    gate: &G,
+) -> Result<(), CheckError>
+    requires listed { IsListed listing.old }
+    ensures { (es : List (Constraints × Verdict))
+        → AreShown es (listed_of listing.old) cache.old showing.old
+        → TakesAll result es listing.old listing.new cache.new showing.new }
+{
+    loop {
+        let Some(part) = listing.next_part(rt, alloc)? else {
+            return Ok(());
+        };
+        showing.take(rt, alloc, &part, cache, gate);
+    }
+}
+
 /// Discharges the obligations of a procedure, and counts them. The tables say which fields each procedure may write, and how it
 /// touches its parameters.
 fn check_procedure<R: Threads + Sync, G: Gate>(
@@ -103,12 +129,21 @@ fn check_procedure<R: Threads + Sync, G: Gate>(
         → OnOk result
         (held cache.new ≡ discharged (held cache.old) (systems_in (obligations_of (program unit.now) q))) }
 {
-    let obs = match obligations_with_tables(alloc, unit, writes, modes, p) {
-        Ok(list) => list,
+    let mut listing = match Listing::new(alloc, unit, writes, modes, p) {
+        Ok(Some(listing)) => listing,
+        Ok(None) => return Ok(0),
         Err(e) => return Err(not_listed(p, e)),
     };
-    match show(rt, alloc, &obs, cache, gate) {
-        Ok(()) => Ok(obs.len() as u64),
+    let mut showing = match Showing::new(alloc) {
+        Ok(showing) => showing,
+        Err(_) => return Err(out_of_memory(p)),
+    };
+    match take_all(rt, alloc, &mut listing, &mut showing, cache, gate) {
+        Ok(()) => {}
+        Err(e) => return Err(not_listed(p, e)),
+    }
+    match showing.end(cache) {
+        Ok(()) => Ok(listing.count() as u64),
         Err(why) => Err(not_shown(p, why)),
     }
 }
