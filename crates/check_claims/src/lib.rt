@@ -11,4 +11,4 @@ mod walk;
 
 pub use claim::{Claim, Placed};
 pub use extents::Extents;
-pub use walk::claims_of;
+pub use walk::{claims_of, claims_there};
