@@ -7,7 +7,8 @@ use Rattle.exo_calls.specs.Tabled.{tabled}
 use Rattle.c_machine.specs.Machine.{Thing}
 use Rattle.c_machine.specs.CRun.{Behaviour, run_c, globals_of}
 use Rattle.c_lowered.specs.Lowered.{Routine, Naming, param_forms, block_of}
-use Rattle.c_lowered.specs.LoweredUnit.{Printing, memory_of, routine_of, naming_in, formals_of, global_names, lowered}
+use Rattle.c_lowered.specs.LoweredUnit.{Printing, memory_of, routine_of, naming_in, formals_of}
+use Rattle.c_lowered.specs.LoweredUnit.{global_names, lowered}
 
 -- in place of a template
 abbrev pub as_template : Routine → Routine
@@ -21,14 +22,20 @@ plain_in program table = record (naming_in program table) {
 }
 
 -- what a body does among the names of a file, by what those above it do
-abbrev pub body_of : Program → List Name → (Name → Option Thing) → List Behaviour → Procedure → Behaviour
+abbrev pub body_of :
+    Program → List Name → (Name → Option Thing) → List Behaviour → Procedure → Behaviour
 body_of program names globals above p =
     let naming = plain_in program (c_names names p) in
     record {
       formals = formals_of naming p.params;
-      run = run_c (record { globals = globals; functions = λ f. None; instructions = slice_get above }) (block_of naming (param_forms p.params) p.body);
+      run =
+          run_c
+          (record { globals = globals; functions = λ f. None; instructions = slice_get above })
+          (block_of naming (param_forms p.params) p.body);
     }
 
 -- what the bodies of all procedures do, in place; by number
 abbrev pub bodies_of : Program → List Printing → List Behaviour
-bodies_of program what = tabled (body_of program (global_names program what) (globals_of (lowered program what))) [] program.procedures
+bodies_of program what =
+    tabled (body_of program (global_names program what) (globals_of (lowered program what)))
+    [] program.procedures

@@ -1,6 +1,7 @@
 -- A call of a function that calls nothing does what its procedure does.
 use Rattle.std.specs.Prelude.{◌≡◌, ◌≤◌, ℕ, true, false, List, [], ◌∷◌, Some, unsigned_abs, ⊤}
-use Rattle.exo_tree.specs.Tree.{Kind, Param, ParamKind, ControlParam, TensorParam, WindowParam, Procedure}
+use Rattle.exo_tree.specs.Tree.{Kind, Param, ParamKind, ControlParam, TensorParam, WindowParam}
+use Rattle.exo_tree.specs.Tree.{Procedure}
 use Rattle.exo_meaning.specs.State.{State}
 use Rattle.exo_meaning.specs.Run.{World}
 use Rattle.exo_meaning.specs.Inputs.{IsValid, run_procedure}
@@ -19,7 +20,10 @@ use Rattle.c_follows.specs.Calls.{CallsFollow}
 
 abbrev pub behaviour_of : Ground → CWorld → Procedure → Behaviour
 behaviour_of g c_world p =
-    record { formals = formals_of g.naming p.params; run = run_c c_world (block_of g.naming (param_forms p.params) p.body) }
+    record {
+      formals = formals_of g.naming p.params;
+      run = run_c c_world (block_of g.naming (param_forms p.params) p.body);
+    }
 
 -- how large the control parameters are
 abbrev pub IsSmall : State → (ℕ → ℕ) → ℕ → ParamKind → Type 0
@@ -31,7 +35,8 @@ abbrev pub AreSmall : State → (ℕ → ℕ) → List Param → Type 0
 AreSmall s most [] = ⊤
 AreSmall s most (p ∷ ps) = IsSmall s most p.binder.id p.kind × AreSmall s most ps
 
--- the file declares the fields and the functions, and the C names of the parameters are none of theirs and differ
+-- the file declares the fields and the functions, and the C names of the parameters are none of
+-- theirs and differ
 pub record AreDeclared (g : Ground) (c_world : CWorld) (ps : List Param) : Type 0 where
   pub fields : (f : ℕ) → g.declared f ≡ true → c_world.globals (g.naming.field f) ≡ Some IsField
   pub functions : (f : Name) → g.function f ≡ true → c_world.globals f ≡ Some IsFunction
@@ -39,7 +44,8 @@ pub record AreDeclared (g : Ground) (c_world : CWorld) (ps : List Param) : Type 
   pub distinct : AreDistinct ps
 
 -- one input for the procedure and for the call
-pub record IsSameInput (g : Ground) (most : ℕ → ℕ) (layout : Layout) (s : State) (ts : List Thing) (m : Machine) (ps : List Param) : Type 0 where
+pub record IsSameInput (g : Ground) (most : ℕ → ℕ) (layout : Layout) (s : State) (ts : List Thing)
+    (m : Machine) (ps : List Param) : Type 0 where
   pub arguments : AreSame layout s m ps ts
   pub fields :
       (f : ℕ)
@@ -48,10 +54,12 @@ pub record IsSameInput (g : Ground) (most : ℕ → ℕ) (layout : Layout) (s : 
   pub separate : AreSeparate layout s
   pub small : AreSmall s most ps
 
--- From the same valid input a call of a function leaves what its procedure leaves, where all that it calls is followed.
+-- From the same valid input a call of a function leaves what its procedure leaves, where all that
+-- it calls is followed.
 abbrev pub FunctionsFollow : Type 0
 FunctionsFollow =
-    (g : Ground) (most : ℕ → ℕ) (layout : Layout) (world : World) (kinds : ℕ → Kind) (above : List Procedure)
+    (g : Ground) (most : ℕ → ℕ) (layout : Layout) (world : World) (kinds : ℕ → Kind)
+    (above : List Procedure)
     (c_world : CWorld) (p : Procedure) (s : State) (ts : List Thing) (m : Machine)
     → let few = fewness_from kinds [] no_fewness above in
     CallsFollow g world few c_world
@@ -67,7 +75,8 @@ FunctionsFollow =
 -- The same of one that calls nothing.
 abbrev pub FunctionsWithoutCallsFollow : Type 0
 FunctionsWithoutCallsFollow =
-    (g : Ground) (most : ℕ → ℕ) (layout : Layout) (world : World) (kinds : ℕ → Kind) (above : List Procedure)
+    (g : Ground) (most : ℕ → ℕ) (layout : Layout) (world : World) (kinds : ℕ → Kind)
+    (above : List Procedure)
     (c_world : CWorld) (p : Procedure) (s : State) (ts : List Thing) (m : Machine)
     → let few = fewness_from kinds [] no_fewness above in
     ((k : ℕ) → g.called k ≡ false)

@@ -1,6 +1,13 @@
 -- Blocks whose C follows them: what is asked of their expressions, names and memories.
-use Rattle.std.specs.Prelude.{◌≡◌, ◌≤◌, ◌<◌, ◌^◌, ℕ, zero, suc, ℤ, pos, ◌≤ℤ◌, Bool, true, false, List, [], ◌∷◌, length, Option, Some, None, ◌⊎◌, ⊤}
-use Rattle.exo_tree.specs.Tree.{Cell, I32, Control, Lit, Var, Field, StrideOf, Neg, Add, Sub, Mul, Div, Mod, Condition, True, False, Flag, FieldFlag, Lt, Le, Gt, Ge, Eq, And, Or, Datum, Const, Read, Negated, Relu, Plus, Minus, Times, Select, Coord, At, Span, Statement, Assign, Reduce, Config, Pass, If, For, Alloc, View, Call, Argument, ControlArg, ConditionArg, Whole, Window, Block, end, next, Param, ParamKind, ControlParam, TensorParam, WindowParam}
+use Rattle.std.specs.Prelude.{◌≡◌, ◌≤◌, ◌<◌, ◌^◌, ℕ, zero, suc, ℤ, pos, ◌≤ℤ◌, Bool, true, false}
+use Rattle.std.specs.Prelude.{List, [], ◌∷◌, length, Option, Some, None, ◌⊎◌, ⊤}
+use Rattle.exo_tree.specs.Tree.{Cell, I32, Control, Lit, Var, Field, StrideOf, Neg, Add, Sub, Mul}
+use Rattle.exo_tree.specs.Tree.{Div, Mod, Condition, True, False, Flag, FieldFlag, Lt, Le, Gt, Ge}
+use Rattle.exo_tree.specs.Tree.{Eq, And, Or, Datum, Const, Read, Negated, Relu, Plus, Minus, Times}
+use Rattle.exo_tree.specs.Tree.{Select, Coord, At, Span, Statement, Assign, Reduce, Config, Pass}
+use Rattle.exo_tree.specs.Tree.{If, For, Alloc, View, Call, Argument, ControlArg, ConditionArg}
+use Rattle.exo_tree.specs.Tree.{Whole, Window, Block, end, next, Param, ParamKind, ControlParam}
+use Rattle.exo_tree.specs.Tree.{TensorParam, WindowParam}
 use Rattle.exo_meaning.specs.Value.{wrap}
 use Rattle.exo_meaning.specs.Scene.{updated}
 use Rattle.exo_meaning.specs.Units.{spans}
@@ -9,7 +16,8 @@ use Rattle.c_tree.specs.CTree.{Name}
 use Rattle.c_machine.specs.Machine.{same_name}
 use Rattle.c_widths.specs.Magnitude.{magnitude}
 use Rattle.c_widths.specs.Widths.{with_bounds, fits_cells}
-use Rattle.c_lowered.specs.Lowered.{Memory, Hole, Naming, NoForm, NumberForm, TensorForm, WindowForm, Forms, forms_after, without_lanes}
+use Rattle.c_lowered.specs.Lowered.{Memory, Hole, Naming, NoForm, NumberForm, TensorForm}
+use Rattle.c_lowered.specs.Lowered.{WindowForm, Forms, forms_after, without_lanes}
 use Rattle.c_follows.specs.Magnitude.{IsNarrow, AreNarrow}
 use Rattle.c_follows.specs.Simulation.{Declared, Ground, IsPlain, ArePlain}
 
@@ -301,7 +309,9 @@ AreGoodParams forms most (p ∷ ps) = IsGoodParam forms most p.kind × AreGoodPa
 pub record AreNamedApart (g : Ground) (forms : Forms) : Type 0 where
   pub others :
       (x y : ℕ)
-      → (forms x ≡ NoForm) ⊎ ((forms y ≡ NoForm) ⊎ ((x ≡ y) ⊎ (same_name (g.naming.binder x) (g.naming.binder y) ≡ false)))
+      → (forms x ≡ NoForm)
+      ⊎ ((forms y ≡ NoForm)
+      ⊎ ((x ≡ y) ⊎ (same_name (g.naming.binder x) (g.naming.binder y) ≡ false)))
   pub no_field :
       (x f : ℕ)
       → g.declared f ≡ true

@@ -1,8 +1,11 @@
--- Closed instances of what the laws ask: a block that allocates two cells and stores into one of them, and a call that
--- hands on a column of a tensor.
-use Rattle.std.specs.Prelude.{◌≡◌, ℕ, pos, nat_lt, Bool, false, true, List, [], ◌∷◌, codes, Some, None}
+-- Closed instances of what the laws ask: a block that allocates two cells and stores into one of
+-- them, and a call that hands on a column of a tensor.
+use Rattle.std.specs.Prelude.{◌≡◌, ℕ, pos, nat_lt, Bool, false, true, List, [], ◌∷◌, codes, Some}
+use Rattle.std.specs.Prelude.{None}
 use Rattle.std.specs.Option.{IsSome}
-use Rattle.exo_tree.specs.Tree.{Size, I32, Lit, Var, Mul, Lt, Const, Assign, Pass, If, Alloc, ControlArg, Window, Call, Block, end, next, ControlParam, Procedure, Program}
+use Rattle.exo_tree.specs.Tree.{Size, I32, Lit, Var, Mul, Lt, Const, Assign, Pass, If, Alloc}
+use Rattle.exo_tree.specs.Tree.{ControlArg, Window, Call, Block, end, next, ControlParam, Procedure}
+use Rattle.exo_tree.specs.Tree.{Program}
 use Rattle.exo_meaning.specs.Value.{Undefined}
 use Rattle.exo_meaning.specs.State.{State}
 use Rattle.exo_meaning.specs.Run.{World, run}
@@ -19,7 +22,9 @@ use Rattle.c_follows.specs.Good.{IsGoodBlock}
 -- t : i32[2]
 -- t[1] = 7
 abbrev pub body : Block
-body = next (Alloc (record { id = 0; name = codes "t" }) I32 (Lit (pos 2) ∷ []) 0) (next (Assign 0 (Lit (pos 1) ∷ []) (Const (pos 7))) end)
+body =
+    next (Alloc (record { id = 0; name = codes "t" }) I32 (Lit (pos 2) ∷ []) 0)
+    (next (Assign 0 (Lit (pos 1) ∷ []) (Const (pos 7))) end)
 
 abbrev pub nothing_called : Routine
 nothing_called = record { name = []; params = []; template = None }
@@ -60,7 +65,12 @@ world = record { kinds = λ f. Size; callees = λ k. None }
 
 abbrev pub empty : State
 empty = record {
-  scene = record { control = λ x. pos 0; buffers = λ b. None; views = λ x. None; fields = λ f. pos 0 };
+  scene = record {
+    control = λ x. pos 0;
+    buffers = λ b. None;
+    views = λ x. None;
+    fields = λ f. pos 0;
+  };
   cells = λ b at. Undefined;
 }
 
@@ -93,15 +103,24 @@ CallInstance = IsGoodBlock calling_ground (param_forms (col calling).params) siz
 -- ---- widths
 
 abbrev pub sized : List ℕ → Block → Procedure
-sized name b = record { name = name; params = record { binder = record { id = 0; name = codes "n" }; kind = ControlParam Size } ∷ []; asserts = []; body = b; template = None }
+sized name b = record {
+  name = name;
+  params = record { binder = record { id = 0; name = codes "n" }; kind = ControlParam Size } ∷ [];
+  asserts = [];
+  body = b;
+  template = None;
+}
 
 -- def f(n: size): if 4 * n < 5: pass
 abbrev pub fourfold : Procedure
-fourfold = sized (codes "f") (next (If (Lt (Mul (Lit (pos 4)) (Var 0)) (Lit (pos 5))) (next Pass end) end) end)
+fourfold =
+    sized (codes "f")
+    (next (If (Lt (Mul (Lit (pos 4)) (Var 0)) (Lit (pos 5))) (next Pass end) end) end)
 
 -- def g(n: size): f(2147483647 * n)
 abbrev pub giving : Procedure
-giving = sized (codes "g") (next (Call 0 (ControlArg (Mul (Lit (pos 2147483647)) (Var 0)) ∷ [])) end)
+giving =
+    sized (codes "g") (next (Call 0 (ControlArg (Mul (Lit (pos 2147483647)) (Var 0)) ∷ [])) end)
 
 abbrev pub of_procedures : List Procedure → Program
 of_procedures ps = record { procedures = ps; fields = []; memories = [] }

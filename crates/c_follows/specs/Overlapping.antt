@@ -1,7 +1,10 @@
--- A closed instance of calls: of one tensor, two windows that overlap are handed on to be read, and one beside them to be written.
-use Rattle.std.specs.Prelude.{◌≡◌, ◌==◌, ℕ, pos, Bool, true, false, List, [], ◌∷◌, codes, Some, slice_get}
+-- A closed instance of calls: of one tensor, two windows that overlap are handed on to be read, and
+-- one beside them to be written.
+use Rattle.std.specs.Prelude.{◌≡◌, ◌==◌, ℕ, pos, Bool, true, false, List, [], ◌∷◌, codes, Some}
+use Rattle.std.specs.Prelude.{slice_get}
 use Rattle.std.specs.Option.{IsSome}
-use Rattle.exo_tree.specs.Tree.{Binder, I32, Lit, Read, Plus, Assign, Alloc, Span, Window, Call, Block, end, next, Param, WindowParam, Procedure}
+use Rattle.exo_tree.specs.Tree.{Binder, I32, Lit, Read, Plus, Assign, Alloc, Span, Window, Call}
+use Rattle.exo_tree.specs.Tree.{Block, end, next, Param, WindowParam, Procedure}
 use Rattle.exo_meaning.specs.Calls.{Callee}
 use Rattle.exo_meaning.specs.Run.{World, run, callee_in, unit_world}
 use Rattle.c_widths.specs.Few.{Fewness, AllocatesFew, no_fewness, fewness_from}
@@ -33,7 +36,10 @@ adding = record {
   name = codes "f";
   params = params;
   asserts = [];
-  body = next (Assign 2 (Lit (pos 0) ∷ []) (Plus (Read 0 (Lit (pos 0) ∷ [])) (Read 1 (Lit (pos 1) ∷ [])))) end;
+  body =
+      next
+      (Assign 2 (Lit (pos 0) ∷ []) (Plus (Read 0 (Lit (pos 0) ∷ [])) (Read 1 (Lit (pos 1) ∷ []))))
+      end;
   template = Some [];
 }
 
@@ -41,7 +47,11 @@ adding = record {
 abbrev pub overlapping : Block
 overlapping =
     next (Alloc (called_by_letter 3) I32 (Lit (pos 5) ∷ []) 0)
-    (next (Call 0 (Window 3 (Span (Lit (pos 0)) (Lit (pos 2)) ∷ []) ∷ Window 3 (Span (Lit (pos 1)) (Lit (pos 3)) ∷ []) ∷ Window 3 (Span (Lit (pos 3)) (Lit (pos 5)) ∷ []) ∷ [])) end)
+    (next
+    (Call 0 (Window 3 (Span (Lit (pos 0)) (Lit (pos 2)) ∷ [])
+    ∷ Window 3 (Span (Lit (pos 1)) (Lit (pos 3)) ∷ [])
+    ∷ Window 3 (Span (Lit (pos 3)) (Lit (pos 5)) ∷ [])
+    ∷ [])) end)
 
 abbrev pub callee : Callee
 callee = callee_in lower_world adding
@@ -54,7 +64,9 @@ few_of = fewness_from no_kinds [] no_fewness (adding ∷ [])
 
 abbrev pub ground_with : (ℕ → Bool) → (ℕ → Bool) → Ground
 ground_with stored called = record {
-  naming = record (naming_with (record { name = []; params = params; template = Some [] })) { binder = λ x. x ∷ [] };
+  naming = record (naming_with (record { name = []; params = params; template = Some [] })) {
+    binder = λ x. x ∷ [];
+  };
   declared = λ f. false;
   function = λ f. false;
   stored = stored;
@@ -82,4 +94,5 @@ pub record Overlapping : Type 0 where
   pub matches : Matches top_ground nothing zero_bounds itself layout empty bare
   pub few : AllocatesFew world few_of overlapping empty
   pub runs : IsSome (run world overlapping empty)
-  pub done : (n : Machine) × (run_c c_world (block_of top_ground.naming nothing overlapping) bare ≡ Done n)
+  pub done :
+      (n : Machine) × (run_c c_world (block_of top_ground.naming nothing overlapping) bare ≡ Done n)

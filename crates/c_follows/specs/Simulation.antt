@@ -1,8 +1,12 @@
 -- When a C run follows a run of the source.
-use Rattle.std.specs.Prelude.{◌≡◌, ◌≤◌, ◌^◌, ℕ, zero, suc, ℤ, pos, ◌+ℤ◌, ◌*ℤ◌, ◌≤ℤ◌, Bool, true, false, ◌&&◌, List, [], ◌∷◌, length, Option, Some, None, unsigned_abs, nat_lt, ◌⊎◌, ⊤}
-use Rattle.exo_tree.specs.Tree.{Cell, I32, Control, Lit, Var, Field, StrideOf, Neg, Add, Sub, Mul, Div, Mod}
+use Rattle.std.specs.Prelude.{◌≡◌, ◌≤◌, ◌^◌, ℕ, zero, suc, ℤ, pos, ◌+ℤ◌, ◌*ℤ◌, ◌≤ℤ◌, Bool, true}
+use Rattle.std.specs.Prelude.{false, ◌&&◌, List, [], ◌∷◌, length, Option, Some, None, unsigned_abs}
+use Rattle.std.specs.Prelude.{nat_lt, ◌⊎◌, ⊤}
+use Rattle.exo_tree.specs.Tree.{Cell, I32, Control, Lit, Var, Field, StrideOf, Neg, Add, Sub, Mul}
+use Rattle.exo_tree.specs.Tree.{Div, Mod}
 use Rattle.exo_meaning.specs.Value.{Value, Undefined, Number, wrap}
-use Rattle.exo_meaning.specs.Scene.{Scene, Shape, Side, Point, Range, Seen, is_below, whole, extents, strides_of, numbers, LieWithin}
+use Rattle.exo_meaning.specs.Scene.{Scene, Shape, Side, Point, Range, Seen, is_below, whole}
+use Rattle.exo_meaning.specs.Scene.{extents, strides_of, numbers, LieWithin}
 use Rattle.exo_meaning.specs.State.{State}
 use Rattle.exo_meaning.specs.Calls.{all_positive}
 use Rattle.exo_meaning.specs.Run.{product, tensor}
@@ -10,12 +14,14 @@ use Rattle.exo_meaning.specs.Inputs.{IsBetween}
 use Rattle.exo_meaning.specs.Orders.{Each}
 use Rattle.exo_meaning.specs.Laws.{HasRoots}
 use Rattle.c_tree.specs.CTree.{Name, Number64}
-use Rattle.c_machine.specs.Machine.{Outcome, Done, Fault, NoStore, Pointer, Thing, IsNumber, IsField, IsFunction, IsArray, IsVectors, IsWindow, Object, Setting, Machine, moved, number64}
+use Rattle.c_machine.specs.Machine.{Outcome, Done, Fault, NoStore, Pointer, Thing, IsNumber}
+use Rattle.c_machine.specs.Machine.{IsField, IsFunction, IsArray, IsVectors, IsWindow, Object}
+use Rattle.c_machine.specs.Machine.{Setting, Machine, moved, number64}
 use Rattle.c_follows.specs.Magnitude.{AreNarrow}
 use Rattle.c_lowered.specs.Lowered.{Naming, Form, NoForm, NumberForm, TensorForm, WindowForm, Forms}
 
--- Where the source does not fault the C does not either, and where the C is done the two are related.
--- Few says that no allocation of the run is large: then the C finds store for all of them.
+-- Where the source does not fault the C does not either, and where the C is done the two are
+-- related. Few says that no allocation of the run is large: then the C finds store for all of them.
 abbrev pub Follows : {A B : Type 0} → Type 0 → (A → B → Type 0) → Option A → Outcome B → Type 0
 Follows Few R None o = ⊤
 Follows Few R (Some a) (Done b) = R a b
@@ -108,9 +114,10 @@ lower_ends (Range lo n ∷ sides) = lo ∷ lower_ends sides
 abbrev pub beginning : Layout → Shape → Seen → Pointer
 beginning layout shape seen = moved (layout seen.buffer) (dot (lower_ends seen.sides) shape.strides)
 
--- A buffer lies in an object of its cell type, one step apart for each of its strides: each of its cells is in the
--- object, from the buffer's first cell on.
-pub record IsPlaced (layout : Layout) (objects : ℕ → Option Object) (free : ℕ) (b : ℕ) (shape : Shape) : Type 0 where
+-- A buffer lies in an object of its cell type, one step apart for each of its strides: each of its
+-- cells is in the object, from the buffer's first cell on.
+pub record IsPlaced (layout : Layout) (objects : ℕ → Option Object) (free : ℕ) (b : ℕ)
+    (shape : Shape) : Type 0 where
   pub object : Object
   pub there : objects (layout b).object ≡ Some object
   pub below : nat_lt (layout b).object free ≡ true
@@ -128,7 +135,8 @@ pub record IsPlaced (layout : Layout) (objects : ℕ → Option Object) (free : 
 -- ---- fields
 
 -- a field has one number on both sides, by what its C name stands for and holds
-pub record IsSameField (naming : Naming) (fields : ℕ → ℤ) (names : Name → Option Thing) (held : Name → ℤ) (f : ℕ) : Type 0 where
+pub record IsSameField (naming : Naming) (fields : ℕ → ℤ) (names : Name → Option Thing)
+    (held : Name → ℤ) (f : ℕ) : Type 0 where
   pub name : names (naming.field f) ≡ Some IsField
   pub same : held (naming.field f) ≡ fields f
   pub small : unsigned_abs (fields f) ≤ 2 ^ 48
@@ -153,9 +161,10 @@ EndsIn (suc n) [] = ⊥
 EndsIn (suc n) (d ∷ []) = d ≡ pos (suc n)
 EndsIn (suc n) (d ∷ (e ∷ ds)) = EndsIn (suc n) (e ∷ ds)
 
--- What is said of a name on both sides, by what it is. It speaks of the parts of a scene and of a setting on which it
--- depends: what leaves these leaves it.
-module _ (naming : Naming) (forms : Forms) (most : ℕ → ℕ) (layout : Layout) (control : ℕ → ℤ) (buffers : ℕ → Option Shape)
+-- What is said of a name on both sides, by what it is. It speaks of the parts of a scene and of a
+-- setting on which it depends: what leaves these leaves it.
+module _ (naming : Naming) (forms : Forms) (most : ℕ → ℕ) (layout : Layout) (control : ℕ → ℤ)
+    (buffers : ℕ → Option Shape)
     (views : ℕ → Option Seen) (names : Name → Option Thing) where
   pub record IsCounter (x : ℕ) : Type 0 where
     pub name : names (naming.binder x) ≡ Some (IsNumber (control x))
@@ -184,7 +193,9 @@ module _ (naming : Naming) (forms : Forms) (most : ℕ → ℕ) (layout : Layout
     pub full : all_positive (extents seen.sides) ≡ true
     pub rank_is : length (extents seen.sides) ≡ rank
     pub cell_is : shape.cell ≡ cell
-    pub name : names (naming.binder x) ≡ Some (IsWindow (beginning layout shape seen) (strides_of seen.sides shape.strides))
+    pub name :
+        names (naming.binder x)
+        ≡ Some (IsWindow (beginning layout shape seen) (strides_of seen.sides shape.strides))
 
   abbrev pub HasForm : ℕ → Form → Type 0
   HasForm x NoForm = ⊤
@@ -213,7 +224,8 @@ AreApartIn stored layout buffers =
     → (b ≡ c) × (at ≡ bt)
 
 -- a state and a machine that hold the same
-pub record Matches (g : Ground) (forms : Forms) (most : ℕ → ℕ) (root : ℕ → ℕ) (layout : Layout) (s : State) (m : Machine) : Type 0 where
+pub record Matches (g : Ground) (forms : Forms) (most : ℕ → ℕ) (root : ℕ → ℕ) (layout : Layout)
+    (s : State) (m : Machine) : Type 0 where
   pub names : HaveForms g.naming forms most layout s.scene m.setting.names
   pub fields : AreSameFields g.naming g.declared s.scene.fields m.setting.names m.setting.fields
   pub functions : (f : Name) → g.function f ≡ true → m.setting.names f ≡ Some IsFunction
@@ -222,7 +234,8 @@ pub record Matches (g : Ground) (forms : Forms) (most : ℕ → ℕ) (root : ℕ
       → s.scene.buffers b ≡ Some shape
       → (at : List ℤ)
       → in_range at shape.dims ≡ true
-      → IsHeld (s.cells b at) (m.contents (spot_of layout b shape at).object (spot_of layout b shape at).offset)
+      → IsHeld (s.cells b at)
+      (m.contents (spot_of layout b shape at).object (spot_of layout b shape at).offset)
   pub known : (b : ℕ) (shape : Shape) → s.scene.buffers b ≡ Some shape → forms b ≡ NoForm → ⊥
   pub placed :
       (b : ℕ) (shape : Shape)
@@ -242,8 +255,10 @@ IsOutside stored layout s o k =
     → spot_of layout b shape at ≡ record { object = o; offset = k }
     → ⊥
 
--- buffers and objects that were there before are there after, and all cells outside the buffers that may be stored in are as before
-pub record Kept (stored : ℕ → Bool) (layout : Layout) (s : State) (m : Machine) (t : State) (n : Machine) : Type 0 where
+-- buffers and objects that were there before are there after, and all cells outside the buffers
+-- that may be stored in are as before
+pub record Kept (stored : ℕ → Bool) (layout : Layout) (s : State) (m : Machine) (t : State)
+    (n : Machine) : Type 0 where
   pub buffers :
       (b : ℕ) (shape : Shape)
       → s.scene.buffers b ≡ Some shape
@@ -257,7 +272,8 @@ pub record Kept (stored : ℕ → Bool) (layout : Layout) (s : State) (m : Machi
       → n.contents o k ≡ m.contents o k
 
 -- a run of the C that follows one of the source, of a statement that binds nothing
-pub record Ran (g : Ground) (forms : Forms) (most : ℕ → ℕ) (root : ℕ → ℕ) (layout : Layout) (s : State) (m : Machine) (t : State) (n : Machine) : Type 0 where
+pub record Ran (g : Ground) (forms : Forms) (most : ℕ → ℕ) (root : ℕ → ℕ) (layout : Layout)
+    (s : State) (m : Machine) (t : State) (n : Machine) : Type 0 where
   pub matches : Matches g forms most root layout t n
   pub kept : Kept g.stored layout s m t n
   pub control : t.scene.control ≡ s.scene.control
@@ -265,18 +281,22 @@ pub record Ran (g : Ground) (forms : Forms) (most : ℕ → ℕ) (root : ℕ →
   pub same_buffers : t.scene.buffers ≡ s.scene.buffers
 
 -- what holds at the end of a block of what was there at its beginning
-pub record Ends (g : Ground) (forms : Forms) (layout : Layout) (s : State) (m : Machine) (t : State) (n : Machine) : Type 0 where
+pub record Ends (g : Ground) (forms : Forms) (layout : Layout) (s : State) (m : Machine) (t : State)
+    (n : Machine) : Type 0 where
   pub kept : Kept g.stored layout s m t n
   pub names :
       (x : ℕ)
-      → (forms x ≡ NoForm) ⊎ (n.setting.names (g.naming.binder x) ≡ m.setting.names (g.naming.binder x))
+      → (forms x ≡ NoForm)
+      ⊎ (n.setting.names (g.naming.binder x) ≡ m.setting.names (g.naming.binder x))
   pub fields :
       (f : ℕ)
       → g.declared f ≡ true
-      → (n.setting.fields (g.naming.field f) ≡ t.scene.fields f) × (unsigned_abs (t.scene.fields f) ≤ 2 ^ 48)
+      → (n.setting.fields (g.naming.field f) ≡ t.scene.fields f)
+      × (unsigned_abs (t.scene.fields f) ≤ 2 ^ 48)
   pub cells :
       (b : ℕ) (shape : Shape)
       → s.scene.buffers b ≡ Some shape
       → (at : List ℤ)
       → in_range at shape.dims ≡ true
-      → IsHeld (t.cells b at) (n.contents (spot_of layout b shape at).object (spot_of layout b shape at).offset)
+      → IsHeld (t.cells b at)
+      (n.contents (spot_of layout b shape at).object (spot_of layout b shape at).offset)

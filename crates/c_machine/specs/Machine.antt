@@ -1,12 +1,18 @@
 -- The C machine: what it holds, and what its expressions give.
-use Rattle.std.specs.Prelude.{ℕ, zero, suc, ℤ, pos, negsuc, neg_ℤ, ◌+ℤ◌, ◌-ℤ◌, ◌*ℤ◌, int_lt, int_le, ◌==◌, Bool, true, false, not, ◌&&◌, if◌then◌else◌, List, [], ◌∷◌, Option, Some, None}
+use Rattle.std.specs.Prelude.{ℕ, zero, suc, ℤ, pos, negsuc, neg_ℤ, ◌+ℤ◌, ◌-ℤ◌, ◌*ℤ◌, int_lt, int_le}
+use Rattle.std.specs.Prelude.{◌==◌, Bool, true, false, not, ◌&&◌, if◌then◌else◌, List, [], ◌∷◌}
+use Rattle.std.specs.Prelude.{Option, Some, None}
 use Rattle.std.specs.Int.{int_div_euclid, int_rem_euclid}
 use Rattle.std.specs.Ordering.{int_eq}
 use Rattle.exo_tree.specs.Tree.{Cell, I32}
 use Rattle.exo_meaning.specs.Value.{Value, Undefined, Number, wrap}
 use Rattle.exo_meaning.specs.Units.{same_cell}
 pub use Rattle.c_names.specs.Words.{same_name}
-use Rattle.c_tree.specs.CTree.{Name, Number64, Literal, Named, StrideIn, Opposite, Sum, Difference, Product, Quotient, Remainder, Test, Always, Never, IsSet, Less, LessEqual, More, MoreEqual, Equal, Both, Either, CellRef, InArray, InWindow, Number32, Literal32, Read32, Opposite32, Relu32, Sum32, Difference32, Product32, Select32}
+use Rattle.c_tree.specs.CTree.{Name, Number64, Literal, Named, StrideIn, Opposite, Sum, Difference}
+use Rattle.c_tree.specs.CTree.{Product, Quotient, Remainder, Test, Always, Never, IsSet, Less}
+use Rattle.c_tree.specs.CTree.{LessEqual, More, MoreEqual, Equal, Both, Either, CellRef, InArray}
+use Rattle.c_tree.specs.CTree.{InWindow, Number32, Literal32, Read32, Opposite32, Relu32, Sum32}
+use Rattle.c_tree.specs.CTree.{Difference32, Product32, Select32}
 
 -- done, fault, or an allocation for which there is no store
 pub data Outcome (A : Type 0) : Type 0 where
@@ -41,7 +47,8 @@ pub record Object : Type 0 where
   pub size : ℤ
   pub heap : Bool
 
--- all but the contents of cells; objects are numbered by depth, and those from `free` on are not there yet
+-- all but the contents of cells; objects are numbered by depth, and those from `free` on are not
+-- there yet
 pub record Setting : Type 0 where
   pub names : Name → Option Thing
   pub objects : ℕ → Option Object
@@ -106,12 +113,15 @@ number64 s (Opposite a) = after (number64 s a) (λ m. checked (neg_ℤ m))
 number64 s (Sum a b) = on_both ◌+ℤ◌ (number64 s a) (number64 s b)
 number64 s (Difference a b) = on_both ◌-ℤ◌ (number64 s a) (number64 s b)
 number64 s (Product a b) = on_both ◌*ℤ◌ (number64 s a) (number64 s b)
-number64 s (Quotient a c) = where_good (int_le (pos 1) c) (after (number64 s a) (λ m. checked (int_div_euclid m c)))
-number64 s (Remainder a c) = where_good (int_le (pos 1) c) (after (number64 s a) (λ m. checked (int_rem_euclid m c)))
+number64 s (Quotient a c) =
+    where_good (int_le (pos 1) c) (after (number64 s a) (λ m. checked (int_div_euclid m c)))
+number64 s (Remainder a c) =
+    where_good (int_le (pos 1) c) (after (number64 s a) (λ m. checked (int_rem_euclid m c)))
 
 abbrev pub all_numbers64 : Setting → List Number64 → Outcome (List ℤ)
 all_numbers64 s [] = Done []
-all_numbers64 s (a ∷ rest) = after (number64 s a) (λ n. after (all_numbers64 s rest) (λ ns. Done (n ∷ ns)))
+all_numbers64 s (a ∷ rest) =
+    after (number64 s a) (λ n. after (all_numbers64 s rest) (λ ns. Done (n ∷ ns)))
 
 -- ---- tests
 
@@ -177,7 +187,8 @@ from_elements held k = from_array held k
 -- where a cell lies; a fault where that is in no object
 abbrev pub spot_by : (Option Thing → ℤ → Outcome Pointer) → Setting → CellRef → Outcome Pointer
 spot_by from s (InArray x off) = after (number64 s off) (λ k. after (from (s.names x) k) (inside s))
-spot_by from s (InWindow w off) = after (number64 s off) (λ k. after (from_window (s.names w) k) (inside s))
+spot_by from s (InWindow w off) =
+    after (number64 s off) (λ k. after (from_window (s.names w) k) (inside s))
 
 abbrev pub spot : Setting → CellRef → Outcome Pointer
 spot = spot_by from_array
@@ -189,7 +200,8 @@ holds_cells (Some o) cell = same_cell o.cell cell
 
 -- a cell of that type
 abbrev pub typed_spot : Cell → Setting → CellRef → Outcome Pointer
-typed_spot cell s ref = after (spot s ref) (λ p. where_good (holds_cells (s.objects p.object) cell) (Done p))
+typed_spot cell s ref =
+    after (spot s ref) (λ p. where_good (holds_cells (s.objects p.object) cell) (Done p))
 
 abbrev pub is_spot : Pointer → ℕ → ℤ → Bool
 is_spot p o k = (o == p.object) && int_eq k p.offset
@@ -229,15 +241,20 @@ select32 x v y z = if int_lt (wrap I32 x) (wrap I32 v) then y else z
 abbrev pub as_unsigned : Value → Value
 as_unsigned = with_one (λ n. n)
 
--- A literal is one of data, and so below 2 ^ 32, where `nu` is of this type. A read asks for no type
--- of cell as a store does: a name stands for an array or a window of its own type.
+-- A literal is one of data, and so below 2 ^ 32, where `nu` is of this type. A read asks for no
+-- type of cell as a store does: a name stands for an array or a window of its own type.
 abbrev pub number32 : Machine → Number32 → Outcome Value
 number32 m (Literal32 n) = Done (Number (unsigned n))
-number32 m (Read32 ref) = after (spot m.setting ref) (λ p. Done (as_unsigned (m.contents p.object p.offset)))
+number32 m (Read32 ref) =
+    after (spot m.setting ref) (λ p. Done (as_unsigned (m.contents p.object p.offset)))
 number32 m (Opposite32 a) = after (number32 m a) (λ u. Done (with_one (λ x. pos 0 -ℤ x) u))
 number32 m (Relu32 a) = after (number32 m a) (λ u. Done (with_one relu32 u))
-number32 m (Sum32 a b) = after (number32 m a) (λ u. after (number32 m b) (λ v. Done (with_two ◌+ℤ◌ u v)))
-number32 m (Difference32 a b) = after (number32 m a) (λ u. after (number32 m b) (λ v. Done (with_two ◌-ℤ◌ u v)))
-number32 m (Product32 a b) = after (number32 m a) (λ u. after (number32 m b) (λ v. Done (with_two ◌*ℤ◌ u v)))
+number32 m (Sum32 a b) =
+    after (number32 m a) (λ u. after (number32 m b) (λ v. Done (with_two ◌+ℤ◌ u v)))
+number32 m (Difference32 a b) =
+    after (number32 m a) (λ u. after (number32 m b) (λ v. Done (with_two ◌-ℤ◌ u v)))
+number32 m (Product32 a b) =
+    after (number32 m a) (λ u. after (number32 m b) (λ v. Done (with_two ◌*ℤ◌ u v)))
 number32 m (Select32 a b c d) =
-    after (number32 m a) (λ x. after (number32 m b) (λ v. after (number32 m c) (λ y. after (number32 m d) (λ z. Done (with_four select32 x v y z)))))
+    after (number32 m a) (λ x. after (number32 m b) (λ v.
+    after (number32 m c) (λ y. after (number32 m d) (λ z. Done (with_four select32 x v y z)))))

@@ -1,18 +1,27 @@
--- Trees of C as codes, by which a proof tells them apart: the number of a form, and then the codes of its parts.
+-- Trees of C as codes, by which a proof tells them apart: the number of a form, and then the codes
+-- of its parts.
 use Rattle.std.specs.Prelude.{◌≡◌, List}
 use Rattle.std.specs.Coded.{Coded, coded_ℕ, coded_ℤ, coded_list}
 use Rattle.std.proofs.Common.{ap, arith}
 use base.Stored.{Gv, gnil, gnum, gcons, num}
 use Rattle.exo_tree.specs.CodeParts.{left, right}
 use Rattle.exo_tree.specs.Codes.{cell_code}
-use Rattle.c_tree.specs.CTree.{Name, Element, Single, Vector, Number64, Literal, Named, StrideIn, Opposite, Sum, Difference, Product, Quotient, Remainder, Test, Always, Never, IsSet, Less, LessEqual, More, MoreEqual, Equal, Both, Either, CellRef, InArray, InWindow, Number32, Literal32, Read32, Opposite32, Relu32, Sum32, Difference32, Product32, Select32, Actual, Control64, Tested, Alone, Address, WindowOf, Piece, Plain, Filled, FirstCell, CStatement, Store, AddTo, SetField, Empty, Branch, Loop, Array, Malloc, Free, Bind, CallOf, Instruction, CBlock, stop, first}
+use Rattle.c_tree.specs.CTree.{Name, Element, Single, Vector, Number64, Literal, Named, StrideIn}
+use Rattle.c_tree.specs.CTree.{Opposite, Sum, Difference, Product, Quotient, Remainder, Test}
+use Rattle.c_tree.specs.CTree.{Always, Never, IsSet, Less, LessEqual, More, MoreEqual, Equal, Both}
+use Rattle.c_tree.specs.CTree.{Either, CellRef, InArray, InWindow, Number32, Literal32, Read32}
+use Rattle.c_tree.specs.CTree.{Opposite32, Relu32, Sum32, Difference32, Product32, Select32, Actual}
+use Rattle.c_tree.specs.CTree.{Control64, Tested, Alone, Address, WindowOf, Piece, Plain, Filled}
+use Rattle.c_tree.specs.CTree.{FirstCell, CStatement, Store, AddTo, SetField, Empty, Branch, Loop}
+use Rattle.c_tree.specs.CTree.{Array, Malloc, Free, Bind, CallOf, Instruction, CBlock, stop, first}
 
 abbrev pub name_code : Coded Name
 name_code = coded_list coded_ℕ
 
 abbrev pub code_element : Element → Gv
 code_element (Single a) = gcons (gnum 0) (cell_code.code a)
-code_element (Vector a b c) = gcons (gnum 1) (gcons (name_code.code a) (gcons (gnum b) (cell_code.code c)))
+code_element (Vector a b c) =
+    gcons (gnum 1) (gcons (name_code.code a) (gcons (gnum b) (cell_code.code c)))
 
 pub same_element : (s t : Element) → code_element s ≡ code_element t → s ≡ t
 same_element (Single a) (Single a') p = ap Single (cell_code.inj a a' (ap (λ g. right g) p))
@@ -145,7 +154,8 @@ code_data (Relu32 a) = gcons (gnum 3) (code_data a)
 code_data (Sum32 a b) = gcons (gnum 4) (gcons (code_data a) (code_data b))
 code_data (Difference32 a b) = gcons (gnum 5) (gcons (code_data a) (code_data b))
 code_data (Product32 a b) = gcons (gnum 6) (gcons (code_data a) (code_data b))
-code_data (Select32 a b c d) = gcons (gnum 7) (gcons (code_data a) (gcons (code_data b) (gcons (code_data c) (code_data d))))
+code_data (Select32 a b c d) =
+    gcons (gnum 7) (gcons (code_data a) (gcons (code_data b) (gcons (code_data c) (code_data d))))
 
 pub same_data : (s t : Number32) → code_data s ≡ code_data t → s ≡ t
 same_data (Literal32 a) (Literal32 a') p = ap Literal32 (coded_ℤ.inj a a' (ap (λ g. right g) p))
@@ -183,7 +193,9 @@ code_actual (Control64 a) = gcons (gnum 0) (code_number a)
 code_actual (Tested a) = gcons (gnum 1) (code_test a)
 code_actual (Alone a) = gcons (gnum 2) (name_code.code a)
 code_actual (Address a) = gcons (gnum 3) (code_ref a)
-code_actual (WindowOf a b c d) = gcons (gnum 4) (gcons (gnum a) (gcons (cell_code.code b) (gcons (code_ref c) (numbers_code.code d))))
+code_actual (WindowOf a b c d) =
+    gcons (gnum 4)
+    (gcons (gnum a) (gcons (cell_code.code b) (gcons (code_ref c) (numbers_code.code d))))
 
 pub same_actual : (s t : Actual) → code_actual s ≡ code_actual t → s ≡ t
 same_actual (Control64 a) (Control64 a') p = ap Control64 (same_number a a' (ap (λ g. right g) p))
@@ -223,18 +235,30 @@ pieces_code = coded_list piece_code
 
 abbrev mutual
   pub code_statement : CStatement → Gv
-  code_statement (Store a b c) = gcons (gnum 0) (gcons (cell_code.code a) (gcons (code_ref b) (code_data c)))
-  code_statement (AddTo a b c) = gcons (gnum 1) (gcons (cell_code.code a) (gcons (code_ref b) (code_data c)))
+  code_statement (Store a b c) =
+      gcons (gnum 0) (gcons (cell_code.code a) (gcons (code_ref b) (code_data c)))
+  code_statement (AddTo a b c) =
+      gcons (gnum 1) (gcons (cell_code.code a) (gcons (code_ref b) (code_data c)))
   code_statement (SetField a b) = gcons (gnum 2) (gcons (name_code.code a) (code_actual b))
   code_statement Empty = gcons (gnum 3) gnil
-  code_statement (Branch a b c) = gcons (gnum 4) (gcons (code_test a) (gcons (code_block b) (code_block c)))
-  code_statement (Loop a b c d) = gcons (gnum 5) (gcons (name_code.code a) (gcons (code_number b) (gcons (code_number c) (code_block d))))
-  code_statement (Array a b c) = gcons (gnum 6) (gcons (code_element a) (gcons (name_code.code b) (coded_ℤ.code c)))
-  code_statement (Malloc a b c) = gcons (gnum 7) (gcons (code_element a) (gcons (name_code.code b) (code_number c)))
+  code_statement (Branch a b c) =
+      gcons (gnum 4) (gcons (code_test a) (gcons (code_block b) (code_block c)))
+  code_statement (Loop a b c d) =
+      gcons (gnum 5)
+      (gcons (name_code.code a) (gcons (code_number b) (gcons (code_number c) (code_block d))))
+  code_statement (Array a b c) =
+      gcons (gnum 6) (gcons (code_element a) (gcons (name_code.code b) (coded_ℤ.code c)))
+  code_statement (Malloc a b c) =
+      gcons (gnum 7) (gcons (code_element a) (gcons (name_code.code b) (code_number c)))
   code_statement (Free a) = gcons (gnum 8) (name_code.code a)
-  code_statement (Bind a b c d e) = gcons (gnum 9) (gcons (gnum a) (gcons (cell_code.code b) (gcons (name_code.code c) (gcons (code_ref d) (numbers_code.code e)))))
+  code_statement (Bind a b c d e) =
+      gcons (gnum 9)
+      (gcons (gnum a)
+      (gcons (cell_code.code b)
+      (gcons (name_code.code c) (gcons (code_ref d) (numbers_code.code e)))))
   code_statement (CallOf a b) = gcons (gnum 10) (gcons (name_code.code a) (actuals_code.code b))
-  code_statement (Instruction a b c) = gcons (gnum 11) (gcons (gnum a) (gcons (pieces_code.code b) (actuals_code.code c)))
+  code_statement (Instruction a b c) =
+      gcons (gnum 11) (gcons (gnum a) (gcons (pieces_code.code b) (actuals_code.code c)))
 
   pub code_block : CBlock → Gv
   code_block stop = gcons (gnum 0) gnil

@@ -3,7 +3,9 @@ use Rattle.std.specs.Prelude.{◌≤◌, List, [], ◌∷◌, map}
 use Rattle.std.proofs.Common.{arith}
 use denote.Param.Weighed.{most}
 use Rattle.c_tree.specs.declared.tree.CStatement.{CStatement}
-use Rattle.c_tree.specs.declared.tree.CStatement.TheVariants.{Store, AddTo, SetField, Empty, Branch, Loop, Array, Malloc, Free, Bind, Call, Instruction}
+use Rattle.c_tree.specs.declared.tree.CStatement.TheVariants.{Store, AddTo, SetField, Empty, Branch}
+use Rattle.c_tree.specs.declared.tree.CStatement.TheVariants.{Loop, Array, Malloc, Free, Bind, Call}
+use Rattle.c_tree.specs.declared.tree.CStatement.TheVariants.{Instruction}
 use Rattle.c_tree.specs.declared.tree.CBlock.TheDeep.{deep-CStatement}
 use Rattle.c_tree.specs.Sizes.{nodes, nodes_of}
 use Rattle.c_tree.specs.Plain.{plain_statement}
@@ -22,6 +24,7 @@ deep_le-nodes (Bind x w) = omega arith
 deep_le-nodes (Call f) = omega arith
 deep_le-nodes (Instruction f) = omega arith
 
-pub depth_le-nodes : (ss : List CStatement) → most deep-CStatement ss ≤ nodes_of (map plain_statement ss)
+pub depth_le-nodes :
+    (ss : List CStatement) → most deep-CStatement ss ≤ nodes_of (map plain_statement ss)
 depth_le-nodes [] = omega arith
 depth_le-nodes (s ∷ ss) = omega (arith, deep_le-nodes s, depth_le-nodes ss)

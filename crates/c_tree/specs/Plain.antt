@@ -2,8 +2,10 @@
 use Rattle.std.specs.Prelude.{map, string_bytes}
 use Rattle.exo_tree.specs.PlainBinder.{cell_type}
 use Rattle.c_tree.specs.CTree as c
-use Rattle.c_tree.specs.declared.tree.CNumber.{CNumber, Literal, Named, Stride, Opposite', Sum', Difference', Product', Quotient', Remainder'}
-use Rattle.c_tree.specs.declared.tree.CTest.{CTest, Always, Never, IsSet, Less, LessEqual, More, MoreEqual, Equal, Both', Either'}
+use Rattle.c_tree.specs.declared.tree.CNumber.{CNumber, Literal, Named, Stride, Opposite', Sum'}
+use Rattle.c_tree.specs.declared.tree.CNumber.{Difference', Product', Quotient', Remainder'}
+use Rattle.c_tree.specs.declared.tree.CTest.{CTest, Always, Never, IsSet, Less, LessEqual, More}
+use Rattle.c_tree.specs.declared.tree.CTest.{MoreEqual, Equal, Both', Either'}
 use Rattle.c_tree.specs.declared.tree.CHolder.{CHolder}
 use Rattle.c_tree.specs.declared.tree.CHolder.TheVariants as h
 use Rattle.c_tree.specs.declared.tree.CCell.{CCell}
@@ -62,7 +64,8 @@ plain_data (d.Relu' p a) = c.Relu32 (plain_data a)
 plain_data (d.Sum' p a q b) = c.Sum32 (plain_data a) (plain_data b)
 plain_data (d.Difference' p a q b) = c.Difference32 (plain_data a) (plain_data b)
 plain_data (d.Product' p a q b) = c.Product32 (plain_data a) (plain_data b)
-plain_data (d.Select' p a q b r x s y) = c.Select32 (plain_data a) (plain_data b) (plain_data x) (plain_data y)
+plain_data (d.Select' p a q b r x s y) =
+    c.Select32 (plain_data a) (plain_data b) (plain_data x) (plain_data y)
 
 abbrev pub plain_struct : CStruct → c.StructOf
 plain_struct s = record { rank = s.rank; cell = cell_type s.cell }
@@ -95,9 +98,11 @@ plain_statement (s.AddTo t x e) = c.AddTo (cell_type t) (plain_cell x) (plain_da
 plain_statement (s.SetField x a) = c.SetField (string_bytes x) (plain_actual a)
 plain_statement s.Empty = c.Empty
 plain_statement (s.Branch t a b) = c.Branch (plain_test t.value) (c.cblock a) (c.cblock b)
-plain_statement (s.Loop x lo hi b) = c.Loop (string_bytes x) (plain_number lo.value) (plain_number hi.value) (c.cblock b)
+plain_statement (s.Loop x lo hi b) =
+    c.Loop (string_bytes x) (plain_number lo.value) (plain_number hi.value) (c.cblock b)
 plain_statement (s.Array t x n) = c.Array (plain_element t) (string_bytes x) n
-plain_statement (s.Malloc t x n) = c.Malloc (plain_element t) (string_bytes x) (plain_number n.value)
+plain_statement (s.Malloc t x n) =
+    c.Malloc (plain_element t) (string_bytes x) (plain_number n.value)
 plain_statement (s.Free x) = c.Free (string_bytes x)
 plain_statement (s.Bind x w) =
     c.Bind w.kind.rank (cell_type w.kind.cell) (string_bytes x) (plain_cell w.first)

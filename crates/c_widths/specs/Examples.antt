@@ -1,6 +1,8 @@
 -- Closed units, by which the rules of widths with calls can be read off.
 use Rattle.std.specs.Prelude.{◌≡◌, ℕ, pos, ◌==◌, Bool, true, List, [], ◌∷◌, Option, Some, None}
-use Rattle.exo_tree.specs.Tree.{I32, Size, Control, Lit, Var, Mul, Lt, ControlArg, Statement, If, Alloc, Pass, Call, end, next, ControlParam, Procedure, MemoryKind, Program}
+use Rattle.exo_tree.specs.Tree.{I32, Size, Control, Lit, Var, Mul, Lt, ControlArg, Statement, If}
+use Rattle.exo_tree.specs.Tree.{Alloc, Pass, Call, end, next, ControlParam, Procedure, MemoryKind}
+use Rattle.exo_tree.specs.Tree.{Program}
 use Rattle.exo_calls.specs.Closed.{closed}
 use Rattle.c_widths.specs.Raises.{given_to, widest}
 

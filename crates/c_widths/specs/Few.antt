@@ -1,10 +1,13 @@
 -- Runs in which no allocation passes 2 ^ 48 cells, those of callees among them.
-use Rattle.std.specs.Prelude.{◌≡◌, ◌≤ℤ◌, ◌^◌, ℕ, pos, ◌==◌, Bool, true, false, List, [], ◌∷◌, ◌++◌, length, Option, Some, None, ⊤}
-use Rattle.exo_tree.specs.Tree.{Kind, Argument, Statement, Assign, Reduce, Config, Pass, If, For, Alloc, View, Call, Block, end, next, Procedure, Program}
+use Rattle.std.specs.Prelude.{◌≡◌, ◌≤ℤ◌, ◌^◌, ℕ, pos, ◌==◌, Bool, true, false, List, [], ◌∷◌, ◌++◌}
+use Rattle.std.specs.Prelude.{length, Option, Some, None, ⊤}
+use Rattle.exo_tree.specs.Tree.{Kind, Argument, Statement, Assign, Reduce, Config, Pass, If, For}
+use Rattle.exo_tree.specs.Tree.{Alloc, View, Call, Block, end, next, Procedure, Program}
 use Rattle.exo_meaning.specs.Scene.{numbers, holds}
 use Rattle.exo_meaning.specs.State.{State, on_scene, with_control}
 use Rattle.exo_meaning.specs.Calls.{Callee, Given, all_given, entered}
-use Rattle.exo_meaning.specs.Run.{World, product, turn, turns_of, run, step, world_of, callee_in, kinds_of}
+use Rattle.exo_meaning.specs.Run.{World, product, turn, turns_of, run, step, world_of, callee_in}
+use Rattle.exo_meaning.specs.Run.{kinds_of}
 use Rattle.c_widths.specs.Laws.{EachTurn}
 
 -- what it means that the body of the procedure of that number allocates few from that state on

@@ -1,6 +1,11 @@
 -- What magnitudes promise of the values of a run.
-use Rattle.std.specs.Prelude.{◌≡◌, ◌≤◌, ◌≤ℤ◌, ◌^◌, ℕ, ℤ, pos, int_le, ◌==◌, Bool, true, false, ◌&&◌, if◌then◌else◌, List, [], ◌∷◌, Option, Some, unsigned_abs, ⊤}
-use Rattle.exo_tree.specs.Tree.{Control, Lit, Var, Field, StrideOf, Neg, Add, Sub, Mul, Div, Mod, Argument, ControlArg, ConditionArg, Whole, Window, Statement, Assign, Reduce, Config, Pass, If, For, Alloc, View, Call, Block, end, next, MemoryKind, Param, ParamKind, ControlParam, TensorParam, WindowParam, Procedure}
+use Rattle.std.specs.Prelude.{◌≡◌, ◌≤◌, ◌≤ℤ◌, ◌^◌, ℕ, ℤ, pos, int_le, ◌==◌, Bool, true, false, ◌&&◌}
+use Rattle.std.specs.Prelude.{if◌then◌else◌, List, [], ◌∷◌, Option, Some, unsigned_abs, ⊤}
+use Rattle.exo_tree.specs.Tree.{Control, Lit, Var, Field, StrideOf, Neg, Add, Sub, Mul, Div, Mod}
+use Rattle.exo_tree.specs.Tree.{Argument, ControlArg, ConditionArg, Whole, Window, Statement}
+use Rattle.exo_tree.specs.Tree.{Assign, Reduce, Config, Pass, If, For, Alloc, View, Call, Block}
+use Rattle.exo_tree.specs.Tree.{end, next, MemoryKind, Param, ParamKind, ControlParam, TensorParam}
+use Rattle.exo_tree.specs.Tree.{WindowParam, Procedure}
 use Rattle.exo_meaning.specs.Scene.{Scene, Shape, updated, number, numbers, holds}
 use Rattle.exo_meaning.specs.State.{State, on_scene, with_control}
 use Rattle.exo_meaning.specs.Run.{World, product, turn, turns_of, run, step}

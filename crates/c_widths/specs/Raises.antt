@@ -1,10 +1,15 @@
 -- How large the parameters of procedures can be, by what those that call them give, and which
 -- procedure is too wide by that.
-use Rattle.std.specs.Prelude.{◌≡◌, ◌≤◌, ◌<◌, ℕ, suc, ◌==◌, max, Bool, true, false, not, ◌&&◌, if◌then◌else◌, List, [], ◌∷◌, drop, length, Option, Some, None, slice_get, ⊤}
-use Rattle.exo_tree.specs.Tree.{Argument, ControlArg, ConditionArg, Whole, Window, Statement, Assign, Reduce, Config, Pass, If, For, Alloc, View, Call, Block, end, next, Param, Procedure, MemoryKind, Program}
+use Rattle.std.specs.Prelude.{◌≡◌, ◌≤◌, ◌<◌, ℕ, suc, ◌==◌, max, Bool, true, false, not, ◌&&◌}
+use Rattle.std.specs.Prelude.{if◌then◌else◌, List, [], ◌∷◌, drop, length, Option, Some, None}
+use Rattle.std.specs.Prelude.{slice_get, ⊤}
+use Rattle.exo_tree.specs.Tree.{Argument, ControlArg, ConditionArg, Whole, Window, Statement}
+use Rattle.exo_tree.specs.Tree.{Assign, Reduce, Config, Pass, If, For, Alloc, View, Call, Block}
+use Rattle.exo_tree.specs.Tree.{end, next, Param, Procedure, MemoryKind, Program}
 use Rattle.exo_tree.specs.Calls.{calls}
 use Rattle.c_widths.specs.Magnitude.{magnitude}
-use Rattle.c_widths.specs.Widths.{with_bounds, most_of_param, have_narrow_dims, are_narrow_tests, is_narrow_block}
+use Rattle.c_widths.specs.Widths.{with_bounds, most_of_param, have_narrow_dims, are_narrow_tests}
+use Rattle.c_widths.specs.Widths.{is_narrow_block}
 
 -- the greatest magnitude that is given to each parameter of each procedure, by its number and by
 -- the parameter's place

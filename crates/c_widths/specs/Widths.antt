@@ -1,6 +1,14 @@
 -- Whether all control expressions of a procedure fit numbers of 64 bits.
-use Rattle.std.specs.Prelude.{ℕ, zero, suc, ◌-◌, ◌*◌, ◌^◌, ◌==◌, nat_le, max, Bool, true, ◌&&◌, if◌then◌else◌, List, [], ◌∷◌, length, take, Option, Some, None, slice_get}
-use Rattle.exo_tree.specs.Tree.{Kind, Size, Index, Truth, Stride, Control, Condition, True, False, Flag, FieldFlag, Lt, Le, Gt, Ge, Eq, And, Or, Datum, Const, Read, Negated, Relu, Plus, Minus, Times, Select, Coord, At, Span, Argument, ControlArg, ConditionArg, Whole, Window, Statement, Assign, Reduce, Config, Pass, If, For, Alloc, View, Call, Block, end, next, Param, ParamKind, ControlParam, TensorParam, WindowParam, Procedure, MemoryKind}
+use Rattle.std.specs.Prelude.{ℕ, zero, suc, ◌-◌, ◌*◌, ◌^◌, ◌==◌, nat_le, max, Bool, true, ◌&&◌}
+use Rattle.std.specs.Prelude.{if◌then◌else◌, List, [], ◌∷◌, length, take, Option, Some, None}
+use Rattle.std.specs.Prelude.{slice_get}
+use Rattle.exo_tree.specs.Tree.{Kind, Size, Index, Truth, Stride, Control, Condition, True, False}
+use Rattle.exo_tree.specs.Tree.{Flag, FieldFlag, Lt, Le, Gt, Ge, Eq, And, Or, Datum, Const, Read}
+use Rattle.exo_tree.specs.Tree.{Negated, Relu, Plus, Minus, Times, Select, Coord, At, Span}
+use Rattle.exo_tree.specs.Tree.{Argument, ControlArg, ConditionArg, Whole, Window, Statement}
+use Rattle.exo_tree.specs.Tree.{Assign, Reduce, Config, Pass, If, For, Alloc, View, Call, Block}
+use Rattle.exo_tree.specs.Tree.{end, next, Param, ParamKind, ControlParam, TensorParam, WindowParam}
+use Rattle.exo_tree.specs.Tree.{Procedure, MemoryKind}
 use Rattle.exo_meaning.specs.Scene.{updated}
 use Rattle.c_widths.specs.Magnitude.{magnitude, fits, is_narrow}
 

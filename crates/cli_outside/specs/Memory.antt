@@ -1,5 +1,6 @@
 -- Files and a sink in memory: what they hold, and what each call of them answers.
-use Rattle.std.specs.Prelude.{ℕ, ◌==◌, zero, suc, min, Bool, true, false, List, map, string_bytes, Option, Some, None, length, nat_lt, if◌then◌else◌}
+use Rattle.std.specs.Prelude.{ℕ, ◌==◌, zero, suc, min, Bool, true, false, List, map, string_bytes}
+use Rattle.std.specs.Prelude.{Option, Some, None, length, nat_lt, if◌then◌else◌}
 use Rattle.std.specs.List.{list_any}
 use Rattle.std.specs.declared.string.String.{String}
 use Rattle.std.specs.declared.vec.Vec.{Vec}

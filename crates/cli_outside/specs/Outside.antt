@@ -1,5 +1,7 @@
--- What the program may know of the world outside it: files by name, bytes that a sink took, and counts of faults.
-use Rattle.std.specs.Prelude.{◌≡◌, ℕ, ◌+◌, ◌-◌, ◌^◌, ◌<◌, ◌≤◌, ◌++◌, min, List, [], ◌∷◌, take, length, Option, Some, None, if◌then◌else◌, IfSome}
+-- What the program may know of the world outside it: files by name, bytes that a sink took, and
+-- counts of faults.
+use Rattle.std.specs.Prelude.{◌≡◌, ℕ, ◌+◌, ◌-◌, ◌^◌, ◌<◌, ◌≤◌, ◌++◌, min, List, [], ◌∷◌, take}
+use Rattle.std.specs.Prelude.{length, Option, Some, None, if◌then◌else◌, IfSome}
 use Rattle.std.specs.Str.{bytes_eq}
 
 -- files as pairs of a name and its bytes
@@ -15,7 +17,8 @@ content_of (file ∷ files) name = if bytes_eq file.0 name then Some file.1 else
 abbrev pub counted : ℕ → ℕ
 counted n = min (n + 1) (2 ^ 64 - 1)
 
--- The count of faults rose between two moments. At the greatest number it counts as risen, since it can't show more.
+-- The count of faults rose between two moments. At the greatest number it counts as risen, since it
+-- can't show more.
 abbrev pub Rose : ℕ → ℕ → Type 0
 Rose before after = counted before ≤ after
 
@@ -36,4 +39,6 @@ HasBytes told name bytes = IfSome told (λ files. content_of files name ≡ Some
 
 -- the file of that name is told and longer than the limit
 abbrev pub IsLonger : Option Folder → List ℕ → ℕ → Type 0
-IsLonger told name limit = IfSome told (λ files. (bytes : List ℕ) × (content_of files name ≡ Some bytes) × (limit < length bytes))
+IsLonger told name limit =
+    IfSome told
+    (λ files. (bytes : List ℕ) × (content_of files name ≡ Some bytes) × (limit < length bytes))

@@ -1,5 +1,7 @@
 // Files and a sink in memory, which tell their content and fail when they are told to.
-ghost use Rattle.std.specs.Prelude.{◌≡◌, ◌≢◌, ◌≤◌, ◌<◌, ◌-◌, ◌⊎◌, [], List, ℕ, Some, None, length, map, option_map, string_bytes, vec_len, vec_capacity, IfOk, OnOk, OnErr, IsErrOf, Err, ◌++◌, take};
+ghost use Rattle.std.specs.Prelude.{◌≡◌, ◌≢◌, ◌≤◌, ◌<◌, ◌-◌, ◌⊎◌, [], List, ℕ, Some, None, length};
+ghost use Rattle.std.specs.Prelude.{map, option_map, string_bytes, vec_len, vec_capacity, IfOk};
+ghost use Rattle.std.specs.Prelude.{OnOk, OnErr, IsErrOf, Err, ◌++◌, take};
 ghost use Rattle.std.specs.Option.{option_copied};
 ghost use Rattle.std.specs.Result.{result_ok, result_err};
 ghost use Rattle.cli_outside.specs.Outside.{IsLonger, Rose, content_of, counted, with_more};
@@ -27,8 +29,8 @@ pub struct MemFiles {
 }
 
 impl MemFiles {
-    /// Files with these names and bytes, whose names differ. The calls of `read_file` whose numbers, from 0, are in
-    /// `fail` fail.
+    /// Files with these names and bytes, whose names differ. The calls of `read_file` whose
+    /// numbers, from 0, are in `fail` fail.
     pub fn new(files: Vec<(String, Vec<u8>)>, fail: Vec<u64>) -> MemFiles
         ensures told { ⟦<MemFiles as Files>⟧.told result ≡ Some (folder_of files.items) }
         ensures fail { result.plan.fail ≡ fail }
@@ -65,21 +67,29 @@ impl Files for MemFiles {
 
     ghost last_fault = { λ m. option_map string_bytes m.last };
 
-    /// Fails where the call is listed, there is no such file or memory runs out, and else reads what is not too long.
+    /// Fails where the call is listed, there is no such file or memory runs out, and else reads
+    /// what is not too long.
     fn read_file(&mut self, name: &str, limit: usize, into: &mut Vec<u8>) -> Result<(), FileFault>
-        ensures whole { OnOk result (content_of (folder_of self.old.files.items) name.now ≡ Some into.new.items) }
+        ensures whole { OnOk result
+            (content_of (folder_of self.old.files.items) name.now ≡ Some into.new.items) }
         ensures within { OnOk result (vec_len into.new ≤ limit) }
         ensures empty { OnErr result (into.new.items ≡ []) }
         ensures same { self.new.files ≡ self.old.files }
         ensures count { self.old.plan.faults.0 ≤ self.new.plan.faults.0 }
-        ensures failed { IsErrOf result FileFault.Failed → Rose self.old.plan.faults.0 self.new.plan.faults.0 }
-        ensures named { IsErrOf result FileFault.Failed → option_map string_bytes self.new.last ≡ Some name.now }
-        ensures too_long { IsErrOf result FileFault.TooLong → IsLonger (Some (folder_of self.old.files.items)) name.now limit }
+        ensures failed { IsErrOf result FileFault.Failed
+            → Rose self.old.plan.faults.0 self.new.plan.faults.0 }
+        ensures named { IsErrOf result FileFault.Failed
+            → option_map string_bytes self.new.last ≡ Some name.now }
+        ensures too_long { IsErrOf result FileFault.TooLong
+            → IsLonger (Some (folder_of self.old.files.items)) name.now limit }
         ensures answer { (result ≡ Err FileFault.Memory)
-            ⊎ (result_err result ≡ read_fault (is_to_fail self.old.plan) (content_of (folder_of self.old.files.items) name.now) limit) }
+            ⊎ (result_err result
+            ≡ read_fault (is_to_fail self.old.plan)
+            (content_of (folder_of self.old.files.items) name.now) limit) }
         ensures fail { self.new.plan.fail ≡ self.old.plan.fail }
         ensures calls { self.new.plan.calls.0 ≡ counted self.old.plan.calls.0 }
-        ensures faults { result ≢ Err FileFault.Failed → self.new.plan.faults ≡ self.old.plan.faults }
+        ensures faults { result ≢ Err FileFault.Failed
+            → self.new.plan.faults ≡ self.old.plan.faults }
     {
         into.clear();
         let fails = self.plan.next_fails();
@@ -100,7 +110,8 @@ impl Files for MemFiles {
 
 /// The bytes of the first file of that name.
 fn find_file<'a>(files: &'a [(String, Vec<u8>)], name: &str) -> Option<&'a Vec<u8>>
-    ensures { option_map (λ bytes. bytes.items) (option_copied result) ≡ content_of (folder_of files.now) name.now }
+    ensures { option_map (λ bytes. bytes.items) (option_copied result)
+        ≡ content_of (folder_of files.now) name.now }
 {
     for file in files {
         if file.0.as_str() == name {
@@ -110,8 +121,8 @@ fn find_file<'a>(files: &'a [(String, Vec<u8>)], name: &str) -> Option<&'a Vec<u
     None
 }
 
-/// A sink in memory with room for a number of bytes. The calls whose numbers are listed fail, and so does each call
-/// once the room is full.
+/// A sink in memory with room for a number of bytes. The calls whose numbers are listed fail, and
+/// so does each call once the room is full.
 #[derive(Drop)]
 pub struct MemSink {
     bytes: Vec<u8>,
@@ -122,8 +133,8 @@ pub struct MemSink {
 }
 
 impl MemSink {
-    /// An empty sink with this room, in bytes, which it reserves. The calls of `put` whose numbers, from 0, are in
-    /// `fail` fail.
+    /// An empty sink with this room, in bytes, which it reserves. The calls of `put` whose numbers,
+    /// from 0, are in `fail` fail.
     pub fn new(alloc: Global, fail: Vec<u64>, room: usize) -> Result<MemSink, AllocError>
         ensures taken { IfOk result (λ sink. ⟦<MemSink as Sink>⟧.taken sink ≡ Some []) }
         ensures fail { IfOk result (λ sink. sink.plan.fail ≡ fail) }
@@ -151,16 +162,19 @@ impl Sink for MemSink {
 
     ghost faults = { λ s. s.plan.faults.0 };
 
-    /// Takes as much of the piece as there is room for, and fails where the call is listed or the room is full.
+    /// Takes as much of the piece as there is room for, and fails where the call is listed or the
+    /// room is full.
     fn put(&mut self, piece: &[u8]) -> Result<usize, Failed>
         requires { 0 < length piece.now }
         ensures some { IfOk result (λ k. 0 < k) }
         ensures within { IfOk result (λ k. k ≤ length piece.now) }
-        ensures taken { IfOk result (λ k. self.new.bytes.items ≡ self.old.bytes.items ++ take k piece.now) }
+        ensures taken { IfOk result
+            (λ k. self.new.bytes.items ≡ self.old.bytes.items ++ take k piece.now) }
         ensures nothing { OnErr result (self.new.bytes.items ≡ self.old.bytes.items) }
         ensures count { self.old.plan.faults.0 ≤ self.new.plan.faults.0 }
         ensures cause { OnErr result (Rose self.old.plan.faults.0 self.new.plan.faults.0) }
-        ensures answer { result_ok result ≡ put_count (is_to_fail self.old.plan) (self.old.room - vec_len self.old.bytes) (length piece.now) }
+        ensures answer { result_ok result ≡ put_count (is_to_fail self.old.plan)
+            (self.old.room - vec_len self.old.bytes) (length piece.now) }
         ensures fail { self.new.plan.fail ≡ self.old.plan.fail }
         ensures calls { self.new.plan.calls.0 ≡ counted self.old.plan.calls.0 }
         ensures room { self.new.room ≡ self.old.room }

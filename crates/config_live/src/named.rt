@@ -5,7 +5,9 @@ ghost use Rattle.exo_tree.specs.PlainDatum.{datum};
 ghost use Rattle.exo_tree.specs.PlainArgument.{argument};
 ghost use Rattle.exo_tree.specs.PlainParam.{parameter_kind};
 ghost use Rattle.exo_tree.specs.PlainStatement.{statement};
-ghost use Rattle.meaning_laws.specs.Live.{read_by_control, read_by_controls, read_by_condition, read_by_datum, read_by_coords, read_by_argument, read_by_arguments};
+ghost use Rattle.meaning_laws.specs.Live.{read_by_control, read_by_controls, read_by_condition};
+ghost use Rattle.meaning_laws.specs.Live.{read_by_datum, read_by_coords, read_by_argument};
+ghost use Rattle.meaning_laws.specs.Live.{read_by_arguments};
 ghost use Rattle.meaning_laws.specs.UnitFields.{read_by_params, read_by_conditions, read_by_kind};
 ghost use Rattle.config_live.specs.Listed.{Listed};
 ghost use Rattle.config_live.specs.Ways.{named_in};
@@ -43,7 +45,9 @@ fn list_controls(es: &Indices, list: &mut FieldList) -> Result<(), AllocError>
 
 /// The same of the two bounds of a loop, or the two sides of a comparison.
 fn list_two(a: &Ctrl, b: &Ctrl, list: &mut FieldList) -> Result<(), AllocError>
-    ensures { OnOk result (Listed (λ f. read_by_control f (control a.now) || read_by_control f (control b.now)) list.old list.new) }
+    ensures { OnOk result
+        (Listed (λ f. read_by_control f (control a.now) || read_by_control f (control b.now))
+        list.old list.new) }
 {
     list_control(a, list)?;
     list_control(b, list)
@@ -99,7 +103,8 @@ fn list_datum(e: &DataExpr, list: &mut FieldList) -> Result<(), AllocError>
 
 /// The same of a coordinate.
 fn list_coordinate(c: &Coord, list: &mut FieldList) -> Result<(), AllocError>
-    ensures { OnOk result (Listed (λ f. read_by_coords f (coordinate c.now ∷ [])) list.old list.new) }
+    ensures { OnOk result
+        (Listed (λ f. read_by_coords f (coordinate c.now ∷ [])) list.old list.new) }
 {
     match c {
         Coord::At(a) => list_control(a, list),
@@ -141,7 +146,8 @@ fn list_arguments(args: &Args, list: &mut FieldList) -> Result<(), AllocError>
 
 /// The same of a parameter's kind, in its dimensions.
 fn list_kind(kind: &ParamKind, list: &mut FieldList) -> Result<(), AllocError>
-    ensures { OnOk result (Listed (λ f. read_by_kind f (parameter_kind kind.now)) list.old list.new) }
+    ensures { OnOk result
+        (Listed (λ f. read_by_kind f (parameter_kind kind.now)) list.old list.new) }
 {
     match kind {
         ParamKind::Ctrl(_) => Ok(()),

@@ -40,7 +40,8 @@ fn written_from(
     requires { IsLiveTable (program unit.now) table.now }
     ensures { IfOk result (λ s. (f : ℕ) → f < length (program unit.now).fields
         → contains s f
-        ≡ surely_from (program unit.now).procedures (block body.now) place.now (side_taken side) f) }
+        ≡ surely_from (program unit.now).procedures (block body.now) place.now (side_taken side)
+        f) }
 {
     let count = unit.fields.len();
     let mut way = Way::new(alloc, count)?;
@@ -80,7 +81,9 @@ fn add_step(
 ) -> Result<(), AllocError>
     requires table { IsLiveTable (program unit.now) table.now }
     requires wide { length set.old ≡ length (program unit.now).fields }
-    ensures { OnOk result (Marked (λ f. is_listed f (step_fields (program unit.now).procedures (map origin origins.now) k)) set.old set.new) }
+    ensures { OnOk result (Marked
+        (λ f. is_listed f (step_fields (program unit.now).procedures (map origin origins.now) k))
+        set.old set.new) }
 {
     let Some(o) = origins.get(k) else {
         return Ok(());
@@ -129,7 +132,10 @@ fn add_since(
 ) -> Result<(), AllocError>
     requires table { IsLiveTable (program unit.now) table.now }
     requires wide { length set.old ≡ length (program unit.now).fields }
-    ensures { OnOk result (Marked (λ f. is_listed f (fields_since (program unit.now).procedures (map origin origins.now) from p p)) set.old set.new) }
+    ensures { OnOk result (Marked
+        (λ f.
+        is_listed f (fields_since (program unit.now).procedures (map origin origins.now) from p p))
+        set.old set.new) }
 {
     let mut k = p;
     let mut left = p;
@@ -157,7 +163,8 @@ pub fn differing(
     from: ProcId,
 ) -> Result<Vec<FieldId>, AllocError>
     requires table { IsLiveTable (program unit.now) table.now }
-    ensures { IfOk result (λ v. map number v.items ≡ differing (program unit.now) (map origin origins.now) p.0 from.0) }
+    ensures { IfOk result (λ v.
+        map number v.items ≡ differing (program unit.now) (map origin origins.now) p.0 from.0) }
 {
     let count = unit.fields.len();
     if count > 4294967295 {

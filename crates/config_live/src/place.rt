@@ -47,7 +47,9 @@ fn reach_last(
     way: &mut Way,
     added: &mut FieldList,
 ) -> Result<bool, AllocError>
-    ensures { IfOk result (λ found. Reaches table.now (opened_in 0 (gap (step_taken step ∷ []) (side_taken side)) (block b.now)) found way.old way.new added.old added.new) }
+    ensures { IfOk result (λ found.
+        Reaches table.now (opened_in 0 (gap (step_taken step ∷ []) (side_taken side)) (block b.now))
+        found way.old way.new added.old added.new) }
 {
     let from = index_beside(step, side);
     if from > b.len() {
@@ -59,7 +61,8 @@ fn reach_last(
 
 /// Goes over the next turn of a loop, which may not run; no other statement has turns.
 fn next_turn(alloc: Global, s: &Stmt, table: &LiveTable, way: &mut Way) -> Result<(), AllocError>
-    ensures { OnOk result (Went (λ f. live_in_next_turn (calls_in table.now) f (statement s.now)) nothing way.old way.new) }
+    ensures { OnOk result (Went (λ f. live_in_next_turn (calls_in table.now) f (statement s.now))
+        nothing way.old way.new) }
 {
     match s {
         Stmt::For(_, _, _, body) => turn(alloc, body, table, way),
@@ -98,7 +101,9 @@ fn reach(
     way: &mut Way,
     added: &mut FieldList,
 ) -> Result<bool, AllocError>
-    ensures { IfOk result (λ found. Reaches table.now (opened_in 0 (gap (step_taken step ∷ map step_taken rest.now) (side_taken side)) (block b.now)) found way.old way.new added.old added.new) }
+    ensures { IfOk result (λ found. Reaches table.now
+        (opened_in 0 (gap (step_taken step ∷ map step_taken rest.now) (side_taken side))
+        (block b.now)) found way.old way.new added.old added.new) }
 {
     let Some((next, more)) = rest.split_first() else {
         return reach_last(alloc, b, step, side, table, way, added);
@@ -127,7 +132,8 @@ pub(crate) fn go_from(
     table: &LiveTable,
     way: &mut Way,
 ) -> Result<bool, AllocError>
-    ensures { IfOk result (λ found. Arrives table.now (place_in (block body.now) path.now (side_taken side)) found way.old way.new) }
+    ensures { IfOk result (λ found. Arrives table.now
+        (place_in (block body.now) path.now (side_taken side)) found way.old way.new) }
 {
     let Some((step, rest)) = path.as_slice().split_first() else {
         return Ok(false);

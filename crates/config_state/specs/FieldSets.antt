@@ -1,5 +1,6 @@
 -- Sets of a unit's fields, and tables of such sets, one for each procedure.
-use Rattle.std.specs.Prelude.{◌≡◌, ◌<◌, ◌||◌, ℕ, zero, suc, Bool, false, if◌then◌else◌, List, [], ◌∷◌, length, get_or, Option, Some, None, slice_get}
+use Rattle.std.specs.Prelude.{◌≡◌, ◌<◌, ◌||◌, ℕ, zero, suc, Bool, false, if◌then◌else◌, List, []}
+use Rattle.std.specs.Prelude.{◌∷◌, length, get_or, Option, Some, None, slice_get}
 
 -- a set says of each field of the unit, by its number, whether it is in
 abbrev pub contains : List Bool → ℕ → Bool
@@ -26,7 +27,8 @@ IsTable count test table = (k f : ℕ) → f < count → in_table table k f ≡ 
 -- of so many fields those that pass the test, in their order, counted from a number on
 abbrev pub fields_from : ℕ → ℕ → (ℕ → Bool) → List ℕ
 fields_from n zero test = []
-fields_from n (suc count) test = if test n then n ∷ fields_from (suc n) count test else fields_from (suc n) count test
+fields_from n (suc count) test =
+    if test n then n ∷ fields_from (suc n) count test else fields_from (suc n) count test
 
 -- the fields of a unit with so many that pass the test, in unit order
 abbrev pub fields_where : ℕ → (ℕ → Bool) → List ℕ

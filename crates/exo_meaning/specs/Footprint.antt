@@ -1,6 +1,9 @@
 -- The cells that a run touches, in order.
-use Rattle.std.specs.Prelude.{◌≡◌, ℕ, ℤ, ◌+ℤ◌, ◌==◌, ◌||◌, IsSome, Bool, true, false, List, [], ◌∷◌, ◌++◌, Option, Some, None, option_map}
-use Rattle.exo_tree.specs.Tree.{Cell, Datum, Const, Read, Negated, Relu, Plus, Minus, Times, Select, Argument, Statement, Assign, Reduce, Config, Pass, If, For, Alloc, View, Call, Block, end, next}
+use Rattle.std.specs.Prelude.{◌≡◌, ℕ, ℤ, ◌+ℤ◌, ◌==◌, ◌||◌, IsSome, Bool, true, false, List, [], ◌∷◌}
+use Rattle.std.specs.Prelude.{◌++◌, Option, Some, None, option_map}
+use Rattle.exo_tree.specs.Tree.{Cell, Datum, Const, Read, Negated, Relu, Plus, Minus, Times, Select}
+use Rattle.exo_tree.specs.Tree.{Argument, Statement, Assign, Reduce, Config, Pass, If, For, Alloc}
+use Rattle.exo_tree.specs.Tree.{View, Call, Block, end, next}
 use Rattle.exo_meaning.specs.Value.{Value, Undefined, stored_as, on_two}
 use Rattle.exo_meaning.specs.Scene.{Shape, Scene, holds}
 use Rattle.exo_meaning.specs.State.{State, Cells, Place, is_there, place, on_scene, with_control}
@@ -52,7 +55,8 @@ abbrev pub chosen : Bool → List Entry → List Entry → List Entry
 chosen true a b = a
 chosen false a b = b
 
-abbrev pub turns_touch : (ℤ → State → Option State) → (ℤ → State → List Entry) → List ℤ → State → List Entry
+abbrev pub turns_touch :
+    (ℤ → State → Option State) → (ℤ → State → List Entry) → List ℤ → State → List Entry
 turns_touch go touch [] s = []
 turns_touch go touch (n ∷ ns) s = touch n s ++ further (go n s) (turns_touch go touch ns)
 
@@ -60,15 +64,23 @@ turns_touch go touch (n ∷ ns) s = touch n s ++ further (go n s) (turns_touch g
 abbrev mutual
   pub footprint : World → (ℕ → List Argument → State → List Entry) → Block → State → List Entry
   footprint world calls end s = []
-  footprint world calls (next a b) s = step_footprint world calls a s ++ further (step world a s) (footprint world calls b)
+  footprint world calls (next a b) s =
+      step_footprint world calls a s ++ further (step world a s) (footprint world calls b)
 
-  pub step_footprint : World → (ℕ → List Argument → State → List Entry) → Statement → State → List Entry
-  step_footprint world calls (Assign x is e) s = all_read (reads s.scene e) ++ written (place s.scene x is)
-  step_footprint world calls (Reduce x is e) s = all_read (reads s.scene e) ++ reduced s.scene (place s.scene x is)
+  pub step_footprint :
+      World → (ℕ → List Argument → State → List Entry) → Statement → State → List Entry
+  step_footprint world calls (Assign x is e) s =
+      all_read (reads s.scene e) ++ written (place s.scene x is)
+  step_footprint world calls (Reduce x is e) s =
+      all_read (reads s.scene e) ++ reduced s.scene (place s.scene x is)
   step_footprint world calls (Config f a) s = []
   step_footprint world calls Pass s = []
-  step_footprint world calls (If c a b) s = chosen (holds s.scene c) (footprint world calls a s) (footprint world calls b s)
-  step_footprint world calls (For i lo hi b) s = turns_touch (turn i.id (run world b)) (λ n t. footprint world calls b (on_scene (with_control i.id n) t)) (turns_of s.scene lo hi) s
+  step_footprint world calls (If c a b) s =
+      chosen (holds s.scene c) (footprint world calls a s) (footprint world calls b s)
+  step_footprint world calls (For i lo hi b) s =
+      turns_touch (turn i.id (run world b))
+      (λ n t. footprint world calls b (on_scene (with_control i.id n) t))
+      (turns_of s.scene lo hi) s
   step_footprint world calls (Alloc x cell dims memory) s = Made x.id ∷ []
   step_footprint world calls (View w x coords) s = []
   step_footprint world calls (Call k args) s = calls k args s
@@ -85,7 +97,8 @@ under d c b at = d b at (c b at)
 abbrev pub changed_by : Change → State → State
 changed_by d s = record s { cells = under d s.cells }
 
--- the change leaves alone what is read, written or made, and exchanges with additions to what is reduced
+-- the change leaves alone what is read, written or made, and exchanges with additions to what is
+-- reduced
 abbrev pub IsFixed : Change → Place → Type 0
 IsFixed d p = (v : Value) → d p.buffer p.at v ≡ v
 
@@ -93,11 +106,15 @@ abbrev pub Passes : Change → Entry → Type 0
 Passes d (Made x) = (at : List ℤ) (v : Value) → d x at v ≡ v
 Passes d (Reads p) = IsFixed d p
 Passes d (Writes p) = IsFixed d p
-Passes d (Reduces cell p) = (u v : Value) → d p.buffer p.at (stored_as cell (on_two ◌+ℤ◌ v u)) ≡ stored_as cell (on_two ◌+ℤ◌ (d p.buffer p.at v) u)
+Passes d (Reduces cell p) =
+    (u v : Value)
+    → d p.buffer p.at (stored_as cell (on_two ◌+ℤ◌ v u))
+    ≡ stored_as cell (on_two ◌+ℤ◌ (d p.buffer p.at v) u)
 
 -- buffers that are not there stay undefined
 abbrev pub LeavesOthers : Change → Scene → Type 0
-LeavesOthers d scene = (x : ℕ) → scene.buffers x ≡ None → (at : List ℤ) → d x at Undefined ≡ Undefined
+LeavesOthers d scene =
+    (x : ℕ) → scene.buffers x ≡ None → (at : List ℤ) → d x at Undefined ≡ Undefined
 
 -- to change the cells before a run is to change them after it
 abbrev pub Exchanges : Change → (State → Option State) → State → Type 0
@@ -131,7 +148,10 @@ overwrites p (e ∷ es) = overwrites_one p e || overwrites p es
 abbrev pub IsClear : Scene → List Entry → Entry → Type 0
 IsClear scene es (Reads q) = IsSome (scene.buffers q.buffer) → stores q es ≡ false
 IsClear scene es (Writes q) = IsSome (scene.buffers q.buffer) → stores q es ≡ false
-IsClear scene es (Reduces cell q) = (shape : Shape) → scene.buffers q.buffer ≡ Some shape → (overwrites q es ≡ false) × (shape.cell ≡ cell)
+IsClear scene es (Reduces cell q) =
+    (shape : Shape)
+    → scene.buffers q.buffer ≡ Some shape
+    → (overwrites q es ≡ false) × (shape.cell ≡ cell)
 IsClear scene es (Made x) = scene.buffers x ≡ None
 
 -- buffers that are not there hold nothing
@@ -153,6 +173,11 @@ pub record ChangesBy (es : List Entry) (s t : State) : Type 0 where
   pub change : Change
   pub cells : t.cells ≡ under change s.cells
   pub idle : (p : Place) → stores p es ≡ false → IsFixed change p
-  pub sums : (p : Place) (shape : Shape) → s.scene.buffers p.buffer ≡ Some shape → overwrites p es ≡ false → IsSum shape.cell (change p.buffer p.at)
-  pub shapes : (p : Place) → overwrites p es ≡ false → t.scene.buffers p.buffer ≡ s.scene.buffers p.buffer
+  pub sums :
+      (p : Place) (shape : Shape)
+      → s.scene.buffers p.buffer ≡ Some shape
+      → overwrites p es ≡ false
+      → IsSum shape.cell (change p.buffer p.at)
+  pub shapes :
+      (p : Place) → overwrites p es ≡ false → t.scene.buffers p.buffer ≡ s.scene.buffers p.buffer
   pub tidy : IsTidy t

@@ -1,10 +1,14 @@
 -- The ways in which a procedure touches buffers: directly, through views, or through calls.
-use Rattle.std.specs.Prelude.{ℕ, ◌==◌, ◌||◌, Bool, false, List, [], ◌∷◌, ◌++◌, Option, Some, None, slice_get}
-use Rattle.exo_tree.specs.Tree.{Kind, Datum, Const, Read, Negated, Relu, Plus, Minus, Times, Select, Argument, Statement, Assign, Reduce, Config, Pass, If, For, Alloc, View, Call, Block, end, next, Procedure}
+use Rattle.std.specs.Prelude.{ℕ, ◌==◌, ◌||◌, Bool, false, List, [], ◌∷◌, ◌++◌, Option, Some, None}
+use Rattle.std.specs.Prelude.{slice_get}
+use Rattle.exo_tree.specs.Tree.{Kind, Datum, Const, Read, Negated, Relu, Plus, Minus, Times, Select}
+use Rattle.exo_tree.specs.Tree.{Argument, Statement, Assign, Reduce, Config, Pass, If, For, Alloc}
+use Rattle.exo_tree.specs.Tree.{View, Call, Block, end, next, Procedure}
 use Rattle.exo_meaning.specs.Calls.{Callee}
 use Rattle.exo_meaning.specs.Run.{World, roots_after, call_writes, world_of, callee_in}
 
--- a parameter is read, written or reduced where a body does so directly, through a view, or through a call
+-- a parameter is read, written or reduced where a body does so directly, through a view, or through
+-- a call
 pub data Mode : Type 0 where
   Reading Writing Reducing : Mode
 
@@ -24,7 +28,8 @@ reads_from root (Relu a) y = reads_from root a y
 reads_from root (Plus a b) y = reads_from root a y || reads_from root b y
 reads_from root (Minus a b) y = reads_from root a y || reads_from root b y
 reads_from root (Times a b) y = reads_from root a y || reads_from root b y
-reads_from root (Select a b c d) y = reads_from root a y || (reads_from root b y || (reads_from root c y || reads_from root d y))
+reads_from root (Select a b c d) y =
+    reads_from root a y || (reads_from root b y || (reads_from root c y || reads_from root d y))
 
 -- some argument is a part of y whose parameter has the mode
 abbrev pub call_has : Option Callee → (ℕ → Bool) → (ℕ → ℕ) → ℕ → List Argument → Bool

@@ -52,6 +52,15 @@ Crosses R S p q = R p.0 q.0 × S q.1 p.1
 abbrev pub HasScene : Scene → State → Type 0
 HasScene scene s = s.scene ≡ scene
 
--- loops by rows may be run by columns, where the turns leave the names and fields alone and each pair that is exchanged commutes
+-- loops by rows may be run by columns, where the turns leave the names and fields alone and each
+-- pair that is exchanged commutes
 abbrev pub NestsReorder : Type 0
-NestsReorder = (scene : Scene) (go : ℤ × ℤ → State → Option State) (rows columns : List ℤ) → Stays (HasScene scene) go → ((p q : ℤ × ℤ) → Crosses ◌<ℤ◌ ◌<ℤ◌ p q → Exchange (HasScene scene) go p q) → Ascends ◌<ℤ◌ rows → Ascends ◌<ℤ◌ columns → (s : State) → s.scene ≡ scene → turns go (by_rows rows columns) s ≡ turns go (by_columns rows columns) s
+NestsReorder =
+    (scene : Scene) (go : ℤ × ℤ → State → Option State) (rows columns : List ℤ)
+    → Stays (HasScene scene) go
+    → ((p q : ℤ × ℤ) → Crosses ◌<ℤ◌ ◌<ℤ◌ p q → Exchange (HasScene scene) go p q)
+    → Ascends ◌<ℤ◌ rows
+    → Ascends ◌<ℤ◌ columns
+    → (s : State)
+    → s.scene ≡ scene
+    → turns go (by_rows rows columns) s ≡ turns go (by_columns rows columns) s

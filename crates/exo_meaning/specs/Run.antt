@@ -1,9 +1,15 @@
 -- Runs of blocks: a state, or None, a fault.
-use Rattle.std.specs.Prelude.{ℕ, zero, suc, ℤ, pos, negsuc, ◌+ℤ◌, ◌-ℤ◌, ◌*ℤ◌, ◌==◌, Bool, true, false, ◌&&◌, ◌||◌, List, [], ◌∷◌, ◌++◌, Option, Some, None, slice_get}
-use Rattle.exo_tree.specs.Tree.{Cell, Kind, Index, Control, Coord, Argument, ControlArg, ConditionArg, Whole, Window, Datum, Statement, Assign, Reduce, Config, Pass, If, For, Alloc, View, Call, Block, end, next, Param, Procedure, ConfigField, Program}
+use Rattle.std.specs.Prelude.{ℕ, zero, suc, ℤ, pos, negsuc, ◌+ℤ◌, ◌-ℤ◌, ◌*ℤ◌, ◌==◌, Bool, true}
+use Rattle.std.specs.Prelude.{false, ◌&&◌, ◌||◌, List, [], ◌∷◌, ◌++◌, Option, Some, None, slice_get}
+use Rattle.exo_tree.specs.Tree.{Cell, Kind, Index, Control, Coord, Argument, ControlArg}
+use Rattle.exo_tree.specs.Tree.{ConditionArg, Whole, Window, Datum, Statement, Assign, Reduce}
+use Rattle.exo_tree.specs.Tree.{Config, Pass, If, For, Alloc, View, Call, Block, end, next, Param}
+use Rattle.exo_tree.specs.Tree.{Procedure, ConfigField, Program}
 use Rattle.exo_meaning.specs.Value.{Undefined, on_two}
-use Rattle.exo_meaning.specs.Scene.{then_do, Shape, Scene, updated, number, numbers, holds, window, where_true}
-use Rattle.exo_meaning.specs.State.{State, place, put, value, with_control, with_field, with_view, with_buffer, with_contents, on_scene, scoped}
+use Rattle.exo_meaning.specs.Scene.{then_do, Shape, Scene, updated, number, numbers, holds, window}
+use Rattle.exo_meaning.specs.Scene.{where_true}
+use Rattle.exo_meaning.specs.State.{State, place, put, value, with_control, with_field, with_view}
+use Rattle.exo_meaning.specs.State.{with_buffer, with_contents, on_scene, scoped}
 use Rattle.exo_meaning.specs.Calls.{Callee, truth, suits, all_positive, call}
 
 -- what a run stands on: the kinds of the fields, and the procedures above in the text
@@ -17,7 +23,9 @@ abbrev pub assign : ℕ → List Control → Datum → State → Option State
 assign x is e s = then_do (place s.scene x is) (λ p. then_do (value s e) (λ v. put s (λ old. v) p))
 
 abbrev pub reduce : ℕ → List Control → Datum → State → Option State
-reduce x is e s = then_do (place s.scene x is) (λ p. then_do (value s e) (λ v. put s (λ old. on_two ◌+ℤ◌ old v) p))
+reduce x is e s =
+    then_do (place s.scene x is)
+    (λ p. then_do (value s e) (λ v. put s (λ old. on_two ◌+ℤ◌ old v) p))
 
 -- None where an argument is a buffer
 abbrev pub argument_number : Scene → Argument → Option ℤ
@@ -27,7 +35,9 @@ argument_number scene (Whole x) = None
 argument_number scene (Window x coords) = None
 
 abbrev pub configure : World → ℕ → Argument → State → Option State
-configure world f a s = then_do (argument_number s.scene a) (λ n. where_true (suits (world.kinds f) n) (Some (on_scene (with_field f n) s)))
+configure world f a s =
+    then_do (argument_number s.scene a)
+    (λ n. where_true (suits (world.kinds f) n) (Some (on_scene (with_field f n) s)))
 
 abbrev pub product : List ℤ → ℤ
 product [] = pos 1
@@ -41,7 +51,9 @@ abbrev pub tensor : Cell → List ℤ → Shape
 tensor cell dims = record { cell = cell; dims = dims; strides = row_major dims }
 
 abbrev pub allocate : ℕ → Cell → List ℤ → State → Option State
-allocate x cell dims s = where_true (all_positive dims) (Some (with_contents x (λ at. Undefined) (on_scene (with_buffer x (tensor cell dims)) s)))
+allocate x cell dims s =
+    where_true (all_positive dims)
+    (Some (with_contents x (λ at. Undefined) (on_scene (with_buffer x (tensor cell dims)) s)))
 
 abbrev pub view : ℕ → ℕ → List Coord → State → Option State
 view w x coords s = then_do (window s.scene x coords) (λ seen. Some (on_scene (with_view w seen) s))
@@ -118,17 +130,20 @@ is_root root y (Window x coords) = y == root x
 abbrev pub call_writes : (ℕ → Bool) → (ℕ → ℕ) → ℕ → List Param → List Argument → Bool
 call_writes writes root y [] args = false
 call_writes writes root y (p ∷ ps) [] = false
-call_writes writes root y (p ∷ ps) (a ∷ rest) = (writes p.binder.id && is_root root y a) || call_writes writes root y ps rest
+call_writes writes root y (p ∷ ps) (a ∷ rest) =
+    (writes p.binder.id && is_root root y a) || call_writes writes root y ps rest
 
 abbrev pub call_to_writes : Option Callee → (ℕ → ℕ) → ℕ → List Argument → Bool
 call_to_writes None root y args = false
-call_to_writes (Some callee) root y args = call_writes callee.writes root y callee.procedure.params args
+call_to_writes (Some callee) root y args =
+    call_writes callee.writes root y callee.procedure.params args
 
 -- whether buffer y may be made, written or reduced, by the buffer of each name
 abbrev mutual
   pub writes : World → (ℕ → ℕ) → Block → ℕ → Bool
   writes world root end y = false
-  writes world root (next a b) y = step_writes world root a y || writes world (roots_after a root) b y
+  writes world root (next a b) y =
+      step_writes world root a y || writes world (roots_after a root) b y
 
   pub step_writes : World → (ℕ → ℕ) → Statement → ℕ → Bool
   step_writes world root (Assign x is e) y = y == root x
@@ -147,7 +162,11 @@ abbrev pub world_of : (ℕ → Kind) → List Callee → World
 world_of kinds above = record { kinds = kinds; callees = slice_get above }
 
 abbrev pub callee_in : World → Procedure → Callee
-callee_in world p = record { procedure = p; run = run world p.body; writes = writes world (λ x. x) p.body }
+callee_in world p = record {
+  procedure = p;
+  run = run world p.body;
+  writes = writes world (λ x. x) p.body;
+}
 
 -- each procedure calls those above it
 abbrev pub callees : (ℕ → Kind) → List Callee → List Procedure → List Callee

@@ -1,8 +1,13 @@
--- All of a state but the values of the cells: what control expressions, places and faults depend on.
-use Rattle.std.specs.Prelude.{◌≡◌, ◌≤ℤ◌, ℕ, ℤ, pos, neg_ℤ, ◌+ℤ◌, ◌-ℤ◌, ◌*ℤ◌, ◌==◌, int_lt, int_le, Bool, true, false, not, ◌&&◌, ◌||◌, if◌then◌else◌, List, [], ◌∷◌, get_or, Option, Some, None, option_map}
+-- All of a state but the values of the cells: what control expressions, places and faults depend
+-- on.
+use Rattle.std.specs.Prelude.{◌≡◌, ◌≤ℤ◌, ℕ, ℤ, pos, neg_ℤ, ◌+ℤ◌, ◌-ℤ◌, ◌*ℤ◌, ◌==◌, int_lt, int_le}
+use Rattle.std.specs.Prelude.{Bool, true, false, not, ◌&&◌, ◌||◌, if◌then◌else◌, List, [], ◌∷◌}
+use Rattle.std.specs.Prelude.{get_or, Option, Some, None, option_map}
 use Rattle.std.specs.Int.{int_div_euclid, int_rem_euclid}
 use Rattle.std.specs.Ordering.{int_eq}
-use Rattle.exo_tree.specs.Tree.{Cell, Control, Lit, Var, Field, StrideOf, Neg, Add, Sub, Mul, Div, Mod, Condition, True, False, Flag, FieldFlag, Lt, Le, Gt, Ge, Eq, And, Or, Coord, At, Span}
+use Rattle.exo_tree.specs.Tree.{Cell, Control, Lit, Var, Field, StrideOf, Neg, Add, Sub, Mul, Div}
+use Rattle.exo_tree.specs.Tree.{Mod, Condition, True, False, Flag, FieldFlag, Lt, Le, Gt, Ge, Eq}
+use Rattle.exo_tree.specs.Tree.{And, Or, Coord, At, Span}
 
 pub record Shape : Type 0 where
   pub cell : Cell
@@ -39,7 +44,11 @@ strides_of (Point p ∷ sides) (t ∷ strides) = strides_of sides strides
 strides_of (Range lo n ∷ sides) (t ∷ strides) = t ∷ strides_of sides strides
 
 abbrev pub strides_seen : Scene → Seen → List ℤ
-strides_seen scene seen = elim (scene.buffers seen.buffer) [ None ↦ [] | Some shape ↦ strides_of seen.sides shape.strides ]
+strides_seen scene seen =
+    elim (scene.buffers seen.buffer) [
+      | None ↦ []
+      | Some shape ↦ strides_of seen.sides shape.strides
+    ]
 
 abbrev pub stride_at : Scene → Option Seen → ℕ → ℤ
 stride_at scene None k = pos 0
@@ -101,7 +110,8 @@ cell_at [] [] = Some []
 cell_at [] (i ∷ is) = None
 cell_at (Point p ∷ sides) is = option_map (λ at. p ∷ at) (cell_at sides is)
 cell_at (Range lo n ∷ sides) [] = None
-cell_at (Range lo n ∷ sides) (i ∷ is) = where_true (is_below i n) (option_map (λ at. (lo +ℤ i) ∷ at) (cell_at sides is))
+cell_at (Range lo n ∷ sides) (i ∷ is) =
+    where_true (is_below i n) (option_map (λ at. (lo +ℤ i) ∷ at) (cell_at sides is))
 
 -- the indices of the name at a cell of the buffer; None where the name does not see it
 abbrev pub index_of : List Side → List ℤ → Option (List ℤ)
@@ -109,7 +119,8 @@ index_of [] [] = Some []
 index_of [] (a ∷ at) = None
 index_of (side ∷ sides) [] = None
 index_of (Point p ∷ sides) (a ∷ at) = where_true (int_eq p a) (index_of sides at)
-index_of (Range lo n ∷ sides) (a ∷ at) = where_true (is_below (a -ℤ lo) n) (option_map (λ is. (a -ℤ lo) ∷ is) (index_of sides at))
+index_of (Range lo n ∷ sides) (a ∷ at) =
+    where_true (is_below (a -ℤ lo) n) (option_map (λ is. (a -ℤ lo) ∷ is) (index_of sides at))
 
 -- the extents of a name
 abbrev pub extents : List Side → List ℤ
@@ -129,14 +140,19 @@ narrowed scene (Point p ∷ sides) cs = option_map (λ rest. Point p ∷ rest) (
 narrowed scene (Range lo n ∷ sides) [] = None
 narrowed scene (Range lo n ∷ sides) (At a ∷ cs) =
     let i = number scene a in
-    where_true (is_below i n) (option_map (λ rest. Point (lo +ℤ i) ∷ rest) (narrowed scene sides cs))
+    where_true (is_below i n)
+    (option_map (λ rest. Point (lo +ℤ i) ∷ rest) (narrowed scene sides cs))
 narrowed scene (Range lo n ∷ sides) (Span a b ∷ cs) =
     let i = number scene a in
     let j = number scene b in
-    where_true (int_le (pos 0) i && int_lt i j && int_le j n) (option_map (λ rest. Range (lo +ℤ i) (j -ℤ i) ∷ rest) (narrowed scene sides cs))
+    where_true (int_le (pos 0) i && int_lt i j && int_le j n)
+    (option_map (λ rest. Range (lo +ℤ i) (j -ℤ i) ∷ rest) (narrowed scene sides cs))
 
 abbrev pub window : Scene → ℕ → List Coord → Option Seen
-window scene x coords = then_do (scene.views x) (λ seen. option_map (λ sides. record { buffer = seen.buffer; sides = sides }) (narrowed scene seen.sides coords))
+window scene x coords =
+    then_do (scene.views x) (λ seen.
+    option_map (λ sides. record { buffer = seen.buffer; sides = sides })
+    (narrowed scene seen.sides coords))
 
 -- ---- a part of a part
 
@@ -169,7 +185,9 @@ ends (Range lo n) = lo +ℤ n
 
 -- a side has an index in common with another one
 abbrev pub sides_meet : Side → Side → Bool
-sides_meet s t = (int_lt (begins s) (ends s) && int_lt (begins t) (ends t)) && (int_lt (begins s) (ends t) && int_lt (begins t) (ends s))
+sides_meet s t =
+    (int_lt (begins s) (ends s) && int_lt (begins t) (ends t))
+    && (int_lt (begins s) (ends t) && int_lt (begins t) (ends s))
 
 -- in each dimension
 abbrev pub all_meet : List Side → List Side → Bool
@@ -183,4 +201,9 @@ are_apart a b = not ((a.buffer == b.buffer) && all_meet a.sides b.sides)
 
 -- no cell is seen by both
 abbrev pub AreApart : Seen → Seen → Type 0
-AreApart a b = (is js at : List ℤ) → a.buffer ≡ b.buffer → cell_at a.sides is ≡ Some at → cell_at b.sides js ≡ Some at → ⊥
+AreApart a b =
+    (is js at : List ℤ)
+    → a.buffer ≡ b.buffer
+    → cell_at a.sides is ≡ Some at
+    → cell_at b.sides js ≡ Some at
+    → ⊥

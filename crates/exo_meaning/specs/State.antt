@@ -1,9 +1,12 @@
 -- States, and what changes them.
-use Rattle.std.specs.Prelude.{ℕ, ℤ, pos, ◌+ℤ◌, ◌-ℤ◌, ◌*ℤ◌, ◌==◌, Bool, ◌&&◌, if◌then◌else◌, List, Option, Some, None, option_map}
+use Rattle.std.specs.Prelude.{ℕ, ℤ, pos, ◌+ℤ◌, ◌-ℤ◌, ◌*ℤ◌, ◌==◌, Bool, ◌&&◌, if◌then◌else◌, List}
+use Rattle.std.specs.Prelude.{Option, Some, None, option_map}
 use Rattle.std.specs.Ordering.{int_eq}
 use Rattle.std.specs.Cmp.Lexicographic.{pointwise}
-use Rattle.exo_tree.specs.Tree.{Control, Datum, Const, Read, Negated, Relu, Plus, Minus, Times, Select}
-use Rattle.exo_meaning.specs.Value.{Value, Undefined, Number, stored_as, on_one, on_two, on_four, relu, selected}
+use Rattle.exo_tree.specs.Tree.{Control, Datum, Const, Read, Negated, Relu, Plus, Minus, Times}
+use Rattle.exo_tree.specs.Tree.{Select}
+use Rattle.exo_meaning.specs.Value.{Value, Undefined, Number, stored_as, on_one, on_two, on_four}
+use Rattle.exo_meaning.specs.Value.{relu, selected}
 use Rattle.exo_meaning.specs.Scene.{Shape, Seen, Scene, updated, numbers, cell_at, whole, then_do}
 
 -- what each buffer holds at each list of indices
@@ -25,7 +28,9 @@ pub record Place : Type 0 where
 
 -- the cell under a name at these indices; None where they are outside
 abbrev pub place : Scene → ℕ → List Control → Option Place
-place scene x is = then_do (scene.views x) (λ seen. option_map (λ at. record { buffer = seen.buffer; at = at }) (cell_at seen.sides (numbers scene is)))
+place scene x is =
+    then_do (scene.views x) (λ seen. option_map (λ at. record { buffer = seen.buffer; at = at })
+    (cell_at seen.sides (numbers scene is)))
 
 abbrev pub held : Cells → Place → Value
 held cells p = cells p.buffer p.at
@@ -39,7 +44,10 @@ changed cells p f b at = if is_there p b at then f (cells b at) else cells b at
 
 -- changes the value of a cell, and keeps what its type holds
 abbrev pub put : State → (Value → Value) → Place → Option State
-put s f p = option_map (λ shape. record s { cells = changed s.cells p (λ old. stored_as shape.cell (f old)) }) (s.scene.buffers p.buffer)
+put s f p =
+    option_map
+    (λ shape. record s { cells = changed s.cells p (λ old. stored_as shape.cell (f old)) })
+    (s.scene.buffers p.buffer)
 
 -- ---- data values: None where an index is outside
 
@@ -52,7 +60,8 @@ value s (Plus a b) = then_do (value s a) (λ u. option_map (on_two ◌+ℤ◌ u)
 value s (Minus a b) = then_do (value s a) (λ u. option_map (on_two ◌-ℤ◌ u) (value s b))
 value s (Times a b) = then_do (value s a) (λ u. option_map (on_two ◌*ℤ◌ u) (value s b))
 value s (Select a b c d) =
-    then_do (value s a) (λ x. then_do (value s b) (λ v. then_do (value s c) (λ y. option_map (on_four selected x v y) (value s d))))
+    then_do (value s a) (λ x. then_do (value s b)
+    (λ v. then_do (value s c) (λ y. option_map (on_four selected x v y) (value s d))))
 
 -- ---- names
 

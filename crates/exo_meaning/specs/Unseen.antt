@@ -1,6 +1,11 @@
 -- Names that a block does not mention.
 use Rattle.std.specs.Prelude.{◌≡◌, ℕ, Bool, false, ◌||◌, List, [], ◌∷◌, Some}
-use Rattle.exo_tree.specs.Tree.{Control, Lit, Var, Field, StrideOf, Neg, Add, Sub, Mul, Div, Mod, Condition, True, False, Flag, FieldFlag, Lt, Le, Gt, Ge, Eq, And, Or, Datum, Const, Read, Negated, Relu, Plus, Minus, Times, Select, Coord, At, Span, Argument, ControlArg, ConditionArg, Whole, Window, Statement, Assign, Reduce, Config, Pass, If, For, Alloc, View, Call, Block, end, next}
+use Rattle.exo_tree.specs.Tree.{Control, Lit, Var, Field, StrideOf, Neg, Add, Sub, Mul, Div, Mod}
+use Rattle.exo_tree.specs.Tree.{Condition, True, False, Flag, FieldFlag, Lt, Le, Gt, Ge, Eq, And}
+use Rattle.exo_tree.specs.Tree.{Or, Datum, Const, Read, Negated, Relu, Plus, Minus, Times, Select}
+use Rattle.exo_tree.specs.Tree.{Coord, At, Span, Argument, ControlArg, ConditionArg, Whole, Window}
+use Rattle.exo_tree.specs.Tree.{Statement, Assign, Reduce, Config, Pass, If, For, Alloc, View, Call}
+use Rattle.exo_tree.specs.Tree.{Block, end, next}
 use Rattle.exo_meaning.specs.Scene.{Seen}
 use Rattle.exo_meaning.specs.State.{State}
 use Rattle.exo_meaning.specs.Refines.{Respects}
@@ -85,8 +90,15 @@ module _ (hidden : ℕ → Bool) where
     pub views : (x : ℕ) → hidden x ≡ false → s.scene.views x ≡ t.scene.views x
     pub fields : s.scene.fields ≡ t.scene.fields
     pub cells : (x : ℕ) → hidden x ≡ false → s.cells x ≡ t.cells x
-    pub seen : (x : ℕ) (seen : Seen) → hidden x ≡ false → s.scene.views x ≡ Some seen → hidden seen.buffer ≡ false
+    pub seen :
+        (x : ℕ) (seen : Seen)
+        → hidden x ≡ false
+        → s.scene.views x ≡ Some seen
+        → hidden seen.buffer ≡ false
 
 -- a run does not see ids that the block does not mention, and leaves them alone
 abbrev pub RunsIgnoreUnmentioned : Type 0
-RunsIgnoreUnmentioned = (hidden : ℕ → Bool) (world : World) (b : Block) → in_block hidden b ≡ false → Respects (SameBut hidden) (run world b)
+RunsIgnoreUnmentioned =
+    (hidden : ℕ → Bool) (world : World) (b : Block)
+    → in_block hidden b ≡ false
+    → Respects (SameBut hidden) (run world b)

@@ -1,9 +1,11 @@
 -- Which buffers are touched, and how, by the tables of the program.
-use Rattle.std.specs.Prelude.{◌≡◌, ℕ, ◌++◌, ◌==◌, ◌||◌, ◌&&◌, Bool, false, List, [], ◌∷◌, map, Option, Some, None, slice_get}
+use Rattle.std.specs.Prelude.{◌≡◌, ℕ, ◌++◌, ◌==◌, ◌||◌, ◌&&◌, Bool, false, List, [], ◌∷◌, map}
+use Rattle.std.specs.Prelude.{Option, Some, None, slice_get}
 use Rattle.exo_tree.specs.Tree.{Datum, Argument, Block, Statement, Procedure, Program, Param}
 use Rattle.exo_meaning.specs.Calls.{Callee}
 use Rattle.exo_meaning.specs.Run.{kinds_of, call_writes}
-use Rattle.exo_meaning.specs.Modes.{Mode, Writing, Reducing, Modes, picked, reads_from, call_has, modes_at, has_mode, step_has_mode, all_modes, unit_modes}
+use Rattle.exo_meaning.specs.Modes.{Mode, Writing, Reducing, Modes, picked, reads_from, call_has}
+use Rattle.exo_meaning.specs.Modes.{modes_at, has_mode, step_has_mode, all_modes, unit_modes}
 
 -- what either says
 abbrev pub together : Modes → Modes → Modes

@@ -6,11 +6,13 @@ use Rattle.text_phrases.specs.Sequence.{spell_all, exactly, then, carried, sever
 use Rattle.text_expressions.specs.Values.{name, literal}
 use Rattle.text_expressions.specs.Expression.{Tree, control}
 use Rattle.text_lexer.specs.declared.token.Token.{Token}
-use Rattle.text_lexer.specs.declared.token.Token.TheVariants.{Name, Str, Sign, Word, Decorator, NewLine, Indent, Dedent}
+use Rattle.text_lexer.specs.declared.token.Token.TheVariants.{Name, Str, Sign, Word, Decorator}
+use Rattle.text_lexer.specs.declared.token.Token.TheVariants.{NewLine, Indent, Dedent}
 use Rattle.text_lexer.specs.declared.token.Sign.TheVariants.{Open, Close, Colon, Assign}
 use Rattle.text_lexer.specs.declared.token.Word.TheVariants as w
 use Rattle.text_lexer.specs.declared.token.Decorator.TheVariants as d
-use Rattle.exo_reader.specs.Source.{Definition, ConfigField, Setting, strings, int, yes, no, Attribute, Item, procedure, instruction, configuration, memory}
+use Rattle.exo_reader.specs.Source.{Definition, ConfigField, Setting, strings, int, yes, no}
+use Rattle.exo_reader.specs.Source.{Attribute, Item, procedure, instruction, configuration, memory}
 use Rattle.exo_reader.specs.Parts.{Is, IsNot, HasSome, some_of, type_name, parameters}
 use Rattle.exo_reader.specs.Statements.{body}
 
@@ -36,7 +38,8 @@ FewBytes pieces = length (joined pieces) ≤ 1024
 abbrev pub neighbours : Phrase Token (List (List ℕ))
 neighbours =
     record {
-      Fits = λ limits pieces. (several (carried Str) FewBytes NoString).Fits limits pieces × HasSome pieces;
+      Fits = λ limits pieces.
+          (several (carried Str) FewBytes NoString).Fits limits pieces × HasSome pieces;
       spell = spell_all (carried Str);
       Follows = NoString;
     }
@@ -91,8 +94,15 @@ assertions = many assertion (IsNot (Word w.Assert))
 abbrev pub definition : Phrase Token Definition
 definition =
     record {
-      Fits = λ limits p. name.Fits limits p.name × parameters.Fits limits (p.params, p.trailing) × assertions.Fits limits p.asserts × (body 1).Fits limits (p.body, tt);
-      spell = λ p. Word w.Def ∷ Name p.name ∷ Sign Open ∷ (parameters.spell (p.params, p.trailing) ++ (Sign Close ∷ Sign Colon ∷ NewLine ∷ Indent ∷ (assertions.spell p.asserts ++ (body 1).spell (p.body, tt))));
+      Fits = λ limits p.
+          name.Fits limits p.name
+          × parameters.Fits limits (p.params, p.trailing)
+          × assertions.Fits limits p.asserts
+          × (body 1).Fits limits (p.body, tt);
+      spell = λ p.
+          Word w.Def ∷ Name p.name ∷ Sign Open ∷ (parameters.spell (p.params, p.trailing)
+          ++ (Sign Close ∷ Sign Colon ∷ NewLine ∷ Indent ∷ (assertions.spell p.asserts
+          ++ (body 1).spell (p.body, tt))));
       Follows = λ o. Unit {0};
     }
 
@@ -114,15 +124,20 @@ attributes = then (some_of attribute (Is Dedent)) (exactly (Dedent ∷ []))
 
 abbrev pub ItemFits : Limits → Item → Type 0
 ItemFits limits (procedure p) = definition.Fits limits p
-ItemFits limits (instruction template p) = neighbours.Fits limits template × definition.Fits limits p
+ItemFits limits (instruction template p) =
+    neighbours.Fits limits template × definition.Fits limits p
 ItemFits limits (configuration x list) = class_header.Fits limits x × fields.Fits limits (list, tt)
 ItemFits limits (memory x list) = class_header.Fits limits x × attributes.Fits limits (list, tt)
 
 abbrev pub spell_item : Item → List Token
 spell_item (procedure p) = Decorator d.Procedure ∷ NewLine ∷ definition.spell p
-spell_item (instruction template p) = Decorator d.Instruction ∷ Sign Open ∷ (neighbours.spell template ++ (Sign Close ∷ NewLine ∷ definition.spell p))
-spell_item (configuration x list) = Decorator d.Configuration ∷ (class_header.spell x ++ fields.spell (list, tt))
-spell_item (memory x list) = Decorator d.MemoryClass ∷ (class_header.spell x ++ attributes.spell (list, tt))
+spell_item (instruction template p) =
+    Decorator d.Instruction ∷ Sign Open ∷ (neighbours.spell template
+    ++ (Sign Close ∷ NewLine ∷ definition.spell p))
+spell_item (configuration x list) =
+    Decorator d.Configuration ∷ (class_header.spell x ++ fields.spell (list, tt))
+spell_item (memory x list) =
+    Decorator d.MemoryClass ∷ (class_header.spell x ++ attributes.spell (list, tt))
 
 abbrev pub item : Phrase Token Item
 item = record { Fits = ItemFits; spell = spell_item; Follows = λ o. Unit {0} }

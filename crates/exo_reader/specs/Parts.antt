@@ -1,5 +1,6 @@
 -- The grammar of parameters, and of the parts of them that statements have too.
-use Rattle.std.specs.Prelude.{◌≡◌, ℕ, ◌<◌, List, [], ◌∷◌, ◌++◌, Option, Some, Bool, true, false, length}
+use Rattle.std.specs.Prelude.{◌≡◌, ℕ, ◌<◌, List, [], ◌∷◌, ◌++◌, Option, Some, Bool, true, false}
+use Rattle.std.specs.Prelude.{length}
 use Rattle.text_phrases.specs.Limits.{Limits}
 use Rattle.text_phrases.specs.Phrase.{Phrase}
 use Rattle.text_phrases.specs.Sequence.{AllFit, spell_all, maybe}
@@ -10,7 +11,8 @@ use Rattle.text_expressions.specs.Values.{name}
 use Rattle.text_expressions.specs.Expression.{Tree, FollowsOperand, indices, most_depth}
 use Rattle.text_lexer.specs.declared.token.Token.{Token}
 use Rattle.text_lexer.specs.declared.token.Token.TheVariants as t
-use Rattle.text_lexer.specs.declared.token.Sign.TheVariants.{OpenBracket, CloseBracket, Close, Comma, Colon, At}
+use Rattle.text_lexer.specs.declared.token.Sign.TheVariants.{OpenBracket, CloseBracket, Close}
+use Rattle.text_lexer.specs.declared.token.Sign.TheVariants.{Comma, Colon, At}
 use Rattle.text_lexer.specs.declared.token.Word.TheVariants as w
 use Rattle.exo_reader.specs.Source.{TypeName, stride, named, Form, plain, strided, Parameter}
 
@@ -32,28 +34,41 @@ HasSome (a ∷ more) = Unit {0}
 
 -- one or more of a phrase, before what ends them
 abbrev pub some_of : {T : Type 0} → Phrase Token T → (Option Token → Type 0) → Phrase Token (List T)
-some_of P ends = record { Fits = λ limits list. AllFit P limits list × HasSome list; spell = spell_all P; Follows = ends }
+some_of P ends = record {
+  Fits = λ limits list. AllFit P limits list × HasSome list;
+  spell = spell_all P;
+  Follows = ends;
+}
 
--- What stands between parentheses: nothing, or items with commas between them and maybe a comma behind the last one. Those
--- behind the first are short together where lengths count.
-abbrev pub EnclosedFit : {T : Type 0} → Phrase Token T → (List T → Type 0) → Limits → List T → Bool → Type 0
+-- What stands between parentheses: nothing, or items with commas between them and maybe a comma
+-- behind the last one. Those behind the first are short together where lengths count.
+abbrev pub EnclosedFit :
+    {T : Type 0} → Phrase Token T → (List T → Type 0) → Limits → List T → Bool → Type 0
 EnclosedFit P Short limits [] true = ⊥
 EnclosedFit P Short limits [] false = Unit {0}
-EnclosedFit P Short limits (a ∷ more) trailing = P.Fits limits a × (commas P (t.Sign Comma) Short (Is (t.Sign Close))).Fits limits (more, trailing)
+EnclosedFit P Short limits (a ∷ more) trailing =
+    P.Fits limits a
+    × (commas P (t.Sign Comma) Short (Is (t.Sign Close))).Fits limits (more, trailing)
 
 abbrev pub spell_enclosed : {T : Type 0} → Phrase Token T → List T → Bool → List Token
 spell_enclosed P [] trailing = []
 spell_enclosed P (a ∷ more) trailing = P.spell a ++ spell_more P (t.Sign Comma) more trailing
 
-abbrev pub enclosed : {T : Type 0} → Phrase Token T → (List T → Type 0) → Phrase Token (List T × Bool)
-enclosed P Short = record { Fits = λ limits l. EnclosedFit P Short limits l.0 l.1; spell = λ l. spell_enclosed P l.0 l.1; Follows = Is (t.Sign Close) }
+abbrev pub enclosed :
+    {T : Type 0} → Phrase Token T → (List T → Type 0) → Phrase Token (List T × Bool)
+enclosed P Short = record {
+  Fits = λ limits l. EnclosedFit P Short limits l.0 l.1;
+  spell = λ l. spell_enclosed P l.0 l.1;
+  Follows = Is (t.Sign Close);
+}
 
 -- dimensions or indices between brackets
 abbrev pub dims : Phrase Token (List Tree)
 dims =
     record {
       Fits = (indices most_depth).Fits;
-      spell = λ ds. t.Sign OpenBracket ∷ ((indices most_depth).spell ds ++ (t.Sign CloseBracket ∷ []));
+      spell =
+          λ ds. t.Sign OpenBracket ∷ ((indices most_depth).spell ds ++ (t.Sign CloseBracket ∷ []));
       Follows = λ o. Unit {0};
     }
 
@@ -67,7 +82,11 @@ spell_maybe_dims [] = []
 spell_maybe_dims (d ∷ more) = dims.spell (d ∷ more)
 
 abbrev pub maybe_dims : Phrase Token (List Tree)
-maybe_dims = record { Fits = MaybeDimsFit; spell = spell_maybe_dims; Follows = IsNot (t.Sign OpenBracket) }
+maybe_dims = record {
+  Fits = MaybeDimsFit;
+  spell = spell_maybe_dims;
+  Follows = IsNot (t.Sign OpenBracket);
+}
 
 -- the word `stride`, or a name
 abbrev pub TypeNameFits : Limits → TypeName → Type 0
@@ -83,7 +102,11 @@ type_name = record { Fits = TypeNameFits; spell = spell_type_name; Follows = λ 
 
 -- `@` and the name of a memory, or nothing
 abbrev pub memory : Phrase Token (List ℕ)
-memory = record { Fits = name.Fits; spell = λ x. t.Sign At ∷ t.Name x ∷ []; Follows = λ o. Unit {0} }
+memory = record {
+  Fits = name.Fits;
+  spell = λ x. t.Sign At ∷ t.Name x ∷ [];
+  Follows = λ o. Unit {0};
+}
 
 -- what may stand behind a parameter, or behind the type of an allocation
 abbrev pub FollowsMemory : Option Token → Type 0
@@ -102,7 +125,8 @@ FormFits limits (strided kind ds) = type_name.Fits limits kind × dims.Fits limi
 
 abbrev pub spell_form : Form → List Token
 spell_form (plain kind ds) = type_name.spell kind ++ maybe_dims.spell ds
-spell_form (strided kind ds) = t.Sign OpenBracket ∷ (type_name.spell kind ++ (t.Sign CloseBracket ∷ dims.spell ds))
+spell_form (strided kind ds) =
+    t.Sign OpenBracket ∷ (type_name.spell kind ++ (t.Sign CloseBracket ∷ dims.spell ds))
 
 abbrev pub form : Phrase Token Form
 form = record { Fits = FormFits; spell = spell_form; Follows = IsNot (t.Sign OpenBracket) }
@@ -111,8 +135,10 @@ form = record { Fits = FormFits; spell = spell_form; Follows = IsNot (t.Sign Ope
 abbrev pub parameter : Phrase Token Parameter
 parameter =
     record {
-      Fits = λ limits p. name.Fits limits p.name × form.Fits limits p.form × maybe_memory.Fits limits p.memory;
-      spell = λ p. t.Name p.name ∷ t.Sign Colon ∷ (form.spell p.form ++ maybe_memory.spell p.memory);
+      Fits = λ limits p.
+          name.Fits limits p.name × form.Fits limits p.form × maybe_memory.Fits limits p.memory;
+      spell =
+          λ p. t.Name p.name ∷ t.Sign Colon ∷ (form.spell p.form ++ maybe_memory.spell p.memory);
       Follows = FollowsMemory;
     }
 

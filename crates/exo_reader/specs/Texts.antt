@@ -1,5 +1,6 @@
 -- Texts: the trees of units, and where and why a text is refused, of whatever kind it is to be.
-use Rattle.std.specs.Prelude.{◌≡◌, ℕ, ◌+◌, ◌-◌, ◌≤◌, List, [], ◌∷◌, ◌++◌, Option, Some, None, map, length, take, drop, slice_get, Result, MatchResult}
+use Rattle.std.specs.Prelude.{◌≡◌, ℕ, ◌+◌, ◌-◌, ◌≤◌, List, [], ◌∷◌, ◌++◌, Option, Some, None, map}
+use Rattle.std.specs.Prelude.{length, take, drop, slice_get, Result, MatchResult}
 use Rattle.text_phrases.specs.Limits.{Cause, syntax, too_deep, too_long, too_large}
 use Rattle.text_phrases.specs.Phrase.{Phrase}
 use Rattle.text_phrases.specs.Text.{IsText, FaultAt}
@@ -35,7 +36,8 @@ IsAtEnd [] = Unit {0}
 IsAtEnd (Dedent ∷ more) = IsAtEnd more
 IsAtEnd other = ⊥
 
--- what a token that may not stand there says by itself: a byte that no text has, or an indentation that fits no block
+-- what a token that may not stand there says by itself: a byte that no text has, or an indentation
+-- that fits no block
 abbrev pub bad_token : Token → Option ReadKind
 bad_token (Bad Byte) = Some k.BadByte
 bad_token (Bad Indentation) = Some k.BadIndent
@@ -79,8 +81,10 @@ pub record IsPlaced (places : List Place) (last : ℕ) (e : ReadError) : Type 0 
   pub line : e.line ≡ place.line
   pub column : e.column ≡ column_at place e.kind
 
--- The tokens are refused at the first one with which no text of the kind begins: this is where and why.
-pub record IsFault {T : Type 0} (kind : Phrase Token T) (tokens : List Token) (places : List Place) (e : ReadError) : Type 0 where
+-- The tokens are refused at the first one with which no text of the kind begins: this is where and
+-- why.
+pub record IsFault {T : Type 0} (kind : Phrase Token T) (tokens : List Token) (places : List Place)
+    (e : ReadError) : Type 0 where
   pub cause : Cause
   pub last : ℕ
   pub fault : FaultAt kind cause tokens last
@@ -88,14 +92,17 @@ pub record IsFault {T : Type 0} (kind : Phrase Token T) (tokens : List Token) (p
   pub placed : IsPlaced places last e
 
 -- an error says where and why the tokens are no text of the kind, but for want of memory
-abbrev pub IsRefusal : {T : Type 0} → Phrase Token T → List Token → List Place → ReadKind → ReadError → Type 0
+abbrev pub IsRefusal :
+    {T : Type 0} → Phrase Token T → List Token → List Place → ReadKind → ReadError → Type 0
 IsRefusal kind tokens places k.Memory e = Unit {0}
 IsRefusal kind tokens places why e = IsFault kind tokens places e
 
--- exactly the unit that a text spells, with the places of its tokens, or exactly where and why it is none
+-- exactly the unit that a text spells, with the places of its tokens, or exactly where and why it
+-- is none
 abbrev pub ReadsUnit : List ℕ → Result Source ReadError → Type 0
 ReadsUnit text result =
-    MatchResult result (λ s. IsText unit (tokens_of text) (map plain_item s.items.items) × (s.places.items ≡ places_of text))
+    MatchResult result (λ s.
+    IsText unit (tokens_of text) (map plain_item s.items.items) × (s.places.items ≡ places_of text))
     (λ e. IsRefusal unit (tokens_of text) (places_of text) e.kind e)
 
 -- no more tokens are left at a refusal than there are
@@ -107,8 +114,10 @@ IsLeft tokens (r.TooLong last) = last ≤ length tokens
 IsLeft tokens (r.TooLarge last) = last ≤ length tokens
 
 -- the error says what a cause does at the first of the last tokens
-pub record SaysAt (cause : Cause) (tokens : List Token) (places : List Place) (last : ℕ) (e : ReadError) : Type 0 where
-  pub why : IsKind cause (take (length tokens - last) tokens) (drop (length tokens - last) tokens) e.kind
+pub record SaysAt (cause : Cause) (tokens : List Token) (places : List Place) (last : ℕ)
+    (e : ReadError) : Type 0 where
+  pub why :
+      IsKind cause (take (length tokens - last) tokens) (drop (length tokens - last) tokens) e.kind
   pub placed : IsPlaced places last e
 
 -- the error says what the refusal does

@@ -3,7 +3,8 @@ use Rattle.std.specs.Prelude.{ℕ, List, map, Bool}
 use Rattle.text_expressions.specs.Views.{tree_of}
 use Rattle.text_lexer.specs.declared.token.Literal.TheVariants.{Value}
 use Rattle.exo_reader.specs.Source as tree
-use Rattle.exo_reader.specs.Source.{Coordinate, Argument, TypeName, Statement, block_of, Form, Parameter, Definition, ConfigField, Setting, Attribute, Item}
+use Rattle.exo_reader.specs.Source.{Coordinate, Argument, TypeName, Statement, block_of, Form}
+use Rattle.exo_reader.specs.Source.{Parameter, Definition, ConfigField, Setting, Attribute, Item}
 use Rattle.exo_reader.specs.declared.source.SourceCoord.{SourceCoord}
 use Rattle.exo_reader.specs.declared.source.SourceCoord.TheVariants.{Point, Span}
 use Rattle.exo_reader.specs.declared.source.SourceArg.{SourceArg}
@@ -13,7 +14,8 @@ use Rattle.exo_reader.specs.declared.source.SourceWindow.{SourceWindow}
 use Rattle.exo_reader.specs.declared.source.SourceKind.{SourceKind}
 use Rattle.exo_reader.specs.declared.source.SourceKind.TheVariants.{Stride, Named}
 use Rattle.exo_reader.specs.declared.source.SourceStmt.{SourceStmt}
-use Rattle.exo_reader.specs.declared.source.SourceStmt.TheOpen.{SourceStmt-F, Pass, If, For, Alloc, Call, Config, Assign, Reduce, View}
+use Rattle.exo_reader.specs.declared.source.SourceStmt.TheOpen.{SourceStmt-F, Pass, If, For, Alloc}
+use Rattle.exo_reader.specs.declared.source.SourceStmt.TheOpen.{Call, Config, Assign, Reduce, View}
 use Rattle.exo_reader.specs.declared.source.SourceStmt.TheFolds.{fold-SourceStmt}
 use Rattle.exo_reader.specs.declared.source.SourceType.{SourceType}
 use Rattle.exo_reader.specs.declared.source.SourceType.TheVariants as f
@@ -25,7 +27,8 @@ use Rattle.exo_reader.specs.declared.source.SourceValue.{SourceValue}
 use Rattle.exo_reader.specs.declared.source.SourceValue.TheVariants.{Strings, Int, Yes, No}
 use Rattle.exo_reader.specs.declared.source.SourceAttribute.{SourceAttribute}
 use Rattle.exo_reader.specs.declared.source.SourceItem.{SourceItem}
-use Rattle.exo_reader.specs.declared.source.SourceItem.TheVariants.{Procedure, Instruction, Configuration, Memory}
+use Rattle.exo_reader.specs.declared.source.SourceItem.TheVariants.{Procedure, Instruction}
+use Rattle.exo_reader.specs.declared.source.SourceItem.TheVariants.{Configuration, Memory}
 
 abbrev pub plain_coordinate : SourceCoord → Coordinate
 plain_coordinate (Point e) = tree.point (tree_of e)
@@ -71,7 +74,13 @@ abbrev pub plain_parameters : SourceParams → List Parameter × Bool
 plain_parameters l = (map plain_parameter l.items.items, l.trailing)
 
 abbrev pub plain_definition : SourceDef → Definition
-plain_definition p = record { name = p.name; params = map plain_parameter p.params.items.items; trailing = p.params.trailing; asserts = map tree_of p.asserts.items; body = map plain_statement p.body.items }
+plain_definition p = record {
+  name = p.name;
+  params = map plain_parameter p.params.items.items;
+  trailing = p.params.trailing;
+  asserts = map tree_of p.asserts.items;
+  body = map plain_statement p.body.items;
+}
 
 abbrev pub plain_field : SourceField → ConfigField
 plain_field f = record { name = f.name; kind = plain_kind f.kind }

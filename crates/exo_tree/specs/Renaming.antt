@@ -1,8 +1,12 @@
 -- Other ids for the names of a block.
 use Rattle.std.specs.Prelude.{ℕ, ◌+◌, List, [], ◌∷◌, ◌++◌, eqb, if◌then◌else◌}
-use Rattle.exo_tree.specs.Tree.{Binder, Control, Var, Condition, Datum, Coord, Argument, Statement, Assign, Reduce, Config, Pass, If, For, Alloc, View, Call, Block, end, next}
-use Rattle.exo_tree.specs.Mapped.{Leaves, mapped_control, mapped_controls, mapped_condition, mapped_datum}
-use Rattle.exo_tree.specs.Mapped.{mapped_coord, mapped_coords, mapped_argument, mapped_arguments, mapped_statement, mapped_block}
+use Rattle.exo_tree.specs.Tree.{Binder, Control, Var, Condition, Datum, Coord, Argument, Statement}
+use Rattle.exo_tree.specs.Tree.{Assign, Reduce, Config, Pass, If, For, Alloc, View, Call, Block}
+use Rattle.exo_tree.specs.Tree.{end, next}
+use Rattle.exo_tree.specs.Mapped.{Leaves, mapped_control, mapped_controls, mapped_condition}
+use Rattle.exo_tree.specs.Mapped.{mapped_datum}
+use Rattle.exo_tree.specs.Mapped.{mapped_coord, mapped_coords, mapped_argument, mapped_arguments}
+use Rattle.exo_tree.specs.Mapped.{mapped_statement, mapped_block}
 
 -- the id of each binder and of each use is changed, and no name
 abbrev pub renaming : (ℕ → ℕ) → Leaves

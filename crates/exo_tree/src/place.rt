@@ -1,5 +1,6 @@
 //! Paths to statements.
-ghost use Rattle.std.specs.Prelude.{◌≡◌, [], ◌∷◌, ◌++◌, ◌<◌, ◌≤◌, length, map, option_map, option_and_then, slice_get};
+ghost use Rattle.std.specs.Prelude.{◌≡◌, [], ◌∷◌, ◌++◌, ◌<◌, ◌≤◌, length, map, option_map};
+ghost use Rattle.std.specs.Prelude.{option_and_then, slice_get};
 ghost use Rattle.std.specs.Option.{option_copied};
 ghost use Rattle.exo_tree.specs.Tree.{block};
 ghost use Rattle.exo_tree.specs.Places.{statement_at, opened_in, first_of};
@@ -19,7 +20,8 @@ pub enum Branch {
     Else,
 }
 
-/// Into a branch, and there to the statement of that index. The first step of a path goes into the procedure's body.
+/// Into a branch, and there to the statement of that index. The first step of a path goes into the
+/// procedure's body.
 #[derive(Clone, Copy, PartialEq, Eq)]
 pub struct Step {
     pub branch: Branch,
@@ -101,7 +103,8 @@ impl Path {
 impl Stmt {
     /// The block of a branch, where the statement has it.
     pub fn block(&self, which: Branch) -> Option<&Block>
-        ensures { option_map block (option_copied result) ≡ branch_of (branch_taken which) (statement self.now) }
+        ensures { option_map block (option_copied result)
+            ≡ branch_of (branch_taken which) (statement self.now) }
     {
         match (self, which) {
             (Stmt::If(_, then_part, _), Branch::Main) => Some(then_part),
@@ -114,7 +117,9 @@ impl Stmt {
 
 /// The statement at a path within a block.
 fn below<'a>(b: &'a Block, path: &[Step]) -> Option<&'a Stmt>
-    ensures { option_map statement (option_copied result) ≡ option_and_then (λ o. first_of o.piece) (opened_in 1 (map step_taken path.now) (block b.now)) }
+    ensures { option_map statement (option_copied result)
+        ≡ option_and_then (λ o. first_of o.piece)
+        (opened_in 1 (map step_taken path.now) (block b.now)) }
 {
     let (step, rest) = path.split_first()?;
     let s = b.get(step.index as usize)?;
@@ -126,7 +131,8 @@ fn below<'a>(b: &'a Block, path: &[Step]) -> Option<&'a Stmt>
 
 /// The statement at a path; None exactly where no statement has it.
 pub fn at<'a>(p: &'a Proc, path: &Path) -> Option<&'a Stmt>
-    ensures { option_map statement (option_copied result) ≡ statement_at path.now (block p.now.body) }
+    ensures { option_map statement (option_copied result)
+        ≡ statement_at path.now (block p.now.body) }
 {
     let steps = path.as_slice();
     match steps.first() {

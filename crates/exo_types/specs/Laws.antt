@@ -15,12 +15,26 @@ use Rattle.exo_types.specs.UnitRules.{items_width}
 
 -- items of the grammar have as many tokens as their widths say
 abbrev pub UnitsAreWide : Type 0
-UnitsAreWide = (items : List Item) → ((limits : Limits) → unit.Fits limits items) → length (unit.spell items) ≡ items_width items
+UnitsAreWide =
+    (items : List Item)
+    → ((limits : Limits) → unit.Fits limits items)
+    → length (unit.spell items) ≡ items_width items
 
--- what a procedure writes depends on those above it by their parameters and what each of these writes alone
+-- what a procedure writes depends on those above it by their parameters and what each of these
+-- writes alone
 abbrev pub SignaturesAgree : Type 0
-SignaturesAgree = (kinds others : ℕ → Kind) (cs ds : List Callee) → map signature_of cs ≡ map signature_of ds → (p : Procedure) → signature_of (callee_in (world_of kinds cs) p) ≡ signature_of (callee_in (world_of others ds) p)
+SignaturesAgree =
+    (kinds others : ℕ → Kind) (cs ds : List Callee)
+    → map signature_of cs ≡ map signature_of ds
+    → (p : Procedure)
+    → signature_of (callee_in (world_of kinds cs) p)
+    ≡ signature_of (callee_in (world_of others ds) p)
 
 -- what a text is read as has a place for each of its tokens and one for its end
 abbrev pub ReadTextsArePlaced : Type 0
-ReadTextsArePlaced = (text : List ℕ) (s : Source) → IsText unit (tokens_of text) (items_of s) → s.places.items ≡ places_of text → length s.places.items ≤ 0x100001 → IsPlaced s
+ReadTextsArePlaced =
+    (text : List ℕ) (s : Source)
+    → IsText unit (tokens_of text) (items_of s)
+    → s.places.items ≡ places_of text
+    → length s.places.items ≤ 0x100001
+    → IsPlaced s

@@ -1,5 +1,6 @@
 -- The rules on classes of memories, and what they are as tables of a unit.
-use Rattle.std.specs.Prelude.{ℕ, ◌+◌, nat_le, Bool, true, false, not, ◌&&◌, ◌||◌, if◌then◌else◌, List, [], ◌∷◌, ◌++◌, length, codes, Option, Some, None}
+use Rattle.std.specs.Prelude.{ℕ, ◌+◌, nat_le, Bool, true, false, not, ◌&&◌, ◌||◌, if◌then◌else◌}
+use Rattle.std.specs.Prelude.{List, [], ◌∷◌, ◌++◌, length, codes, Option, Some, None}
 use Rattle.std.specs.List.{list_any}
 use Rattle.std.specs.Option.{is_some}
 use Rattle.exo_tree.specs.Tree.{MemoryKind}
@@ -7,16 +8,29 @@ use Rattle.exo_meaning.specs.Units.{is_text, is_memory}
 use Rattle.text_lexer.specs.declared.token.Literal.TheVariants.{Value, TooLarge}
 use Rattle.exo_reader.specs.Source.{Setting, strings, int, yes, no, Attribute}
 use Rattle.exo_reader.specs.Items.{joined}
-use Rattle.rules_names.specs.declared.error.TypeKind.TheVariants.{UnknownName, Redefined, KindMismatch}
+use Rattle.rules_names.specs.declared.error.TypeKind.TheVariants.{UnknownName, Redefined}
+use Rattle.rules_names.specs.declared.error.TypeKind.TheVariants.{KindMismatch}
 use Rattle.rules_names.specs.declared.fault.Fault.{Fault}
 use Rattle.rules_names.specs.Faults.{fault, unless, least, or_else}
 use Rattle.exo_types.specs.declared.attribute.Trait.{Trait}
-use Rattle.exo_types.specs.declared.attribute.Trait.TheVariants.{Ctype, Lanes, CellType, Place, MayRead, MayWrite, MayReduce, Header}
+use Rattle.exo_types.specs.declared.attribute.Trait.TheVariants.{Ctype, Lanes, CellType, Place}
+use Rattle.exo_types.specs.declared.attribute.Trait.TheVariants.{MayRead, MayWrite, MayReduce}
+use Rattle.exo_types.specs.declared.attribute.Trait.TheVariants.{Header}
 use Rattle.exo_types.specs.TypeRules.{cell_of_text}
 
 -- a memory without attributes: heap, any cells, and every statement may use it
 abbrev pub plain_memory : List ℕ → MemoryKind
-plain_memory x = record { name = x; ctype = []; lanes = 0; cell = None; stack = false; read = true; write = true; reduce = true; header = [] }
+plain_memory x = record {
+  name = x;
+  ctype = [];
+  lanes = 0;
+  cell = None;
+  stack = false;
+  read = true;
+  write = true;
+  reduce = true;
+  header = [];
+}
 
 -- the memory that is always there
 abbrev pub dram : MemoryKind
@@ -102,13 +116,18 @@ attributes_width (a ∷ more) = attribute_width a + attributes_width more
 
 -- both are charged at the attribute's name; given are the names before
 abbrev pub attribute_faults : List (List ℕ) → ℕ → Attribute → List Fault
-attribute_faults given n a = trait_faults (trait_named a.name) n a.value ++ unless (not (list_any (λ x. is_text x a.name) given)) Redefined n
+attribute_faults given n a =
+    trait_faults (trait_named a.name) n a.value
+    ++ unless (not (list_any (λ x. is_text x a.name) given)) Redefined n
 
 abbrev pub attributes_fault : List (List ℕ) → ℕ → List Attribute → Option Fault
 attributes_fault given n [] = None
-attributes_fault given n (a ∷ more) = or_else (least (attribute_faults given n a)) (attributes_fault (given ++ a.name ∷ []) (n + attribute_width a) more)
+attributes_fault given n (a ∷ more) =
+    or_else (least (attribute_faults given n a))
+    (attributes_fault (given ++ a.name ∷ []) (n + attribute_width a) more)
 
--- where each attribute keeps its own rules, they keep the one on lanes together, else the memory's name is charged, token n
+-- where each attribute keeps its own rules, they keep the one on lanes together, else the memory's
+-- name is charged, token n
 abbrev pub lanes_faults : Option Fault → ℕ → MemoryKind → List Fault
 lanes_faults None n m = unless (is_memory m) KindMismatch n
 lanes_faults (Some own) n m = []

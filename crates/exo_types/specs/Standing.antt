@@ -1,5 +1,7 @@
--- What stands above an item, as tables say it; and what an item adds. n is the number of the item's first token.
-use Rattle.std.specs.Prelude.{◌≡◌, ℕ, ◌+◌, ◌<◌, ◌≤◌, not, List, [], ◌∷◌, ◌++◌, length, map, Option, None, is_some}
+-- What stands above an item, as tables say it; and what an item adds. n is the number of the item's
+-- first token.
+use Rattle.std.specs.Prelude.{◌≡◌, ℕ, ◌+◌, ◌<◌, ◌≤◌, not, List, [], ◌∷◌, ◌++◌, length, map, Option}
+use Rattle.std.specs.Prelude.{None, is_some}
 use Rattle.std.specs.List.{list_any}
 use Rattle.exo_tree.specs.Tree.{ConfigField, Procedure}
 use Rattle.exo_tree.specs.declared.lines.ProcLines.{ProcLines}
@@ -21,8 +23,11 @@ use Rattle.exo_types.specs.declared.typed.Typed.{Typed}
 use Rattle.exo_types.specs.TypeRules.{kind_faults}
 use Rattle.exo_types.specs.StatementRules.{bound_in}
 use Rattle.exo_types.specs.ItemRules.{body_start, definition_end, definition_fault}
-use Rattle.exo_types.specs.UnitRules.{Above, signatures, memory_names, procedure_names, procedure_here, procedure_fault, with_procedure, item_fault, item_width, after_item, unit_fault, unit_of}
-use Rattle.exo_types.specs.UnitLines.{block_starts, line_at, lines_of_definition, lines_of_item, lines_of}
+use Rattle.exo_types.specs.UnitRules.{Above, signatures, memory_names, procedure_names}
+use Rattle.exo_types.specs.UnitRules.{procedure_here, procedure_fault, with_procedure, item_fault}
+use Rattle.exo_types.specs.UnitRules.{item_width, after_item, unit_fault, unit_of}
+use Rattle.exo_types.specs.UnitLines.{block_starts, line_at, lines_of_definition, lines_of_item}
+use Rattle.exo_types.specs.UnitLines.{lines_of}
 use Rattle.exo_types.specs.Walks.{signatures_by}
 
 -- the tables hold the names of the unit
@@ -30,7 +35,9 @@ pub record Agrees (t : Typed) : Type 0 where
   pub procedures : t.procedures ≡ map (λ q. q.name) t.unit.procs
   pub memories : t.memories ≡ map (λ m. m.name) t.unit.memories
   pub fields : t.fields ≡ t.unit.fields
-  pub configurations : (x : List ℕ) → is_some (name_number t.configurations x) ≡ list_any (λ f. is_text f.config x) t.unit.fields
+  pub configurations :
+      (x : List ℕ)
+      → is_some (name_number t.configurations x) ≡ list_any (λ f. is_text f.config x) t.unit.fields
   pub rows : length t.rows.items ≡ length t.unit.procs
 
 -- each name takes a token of its own, but for that of the memory that is always there
@@ -55,17 +62,22 @@ pub record HasPlaces (places : List Place) (end : ℕ) : Type 0 where
 
 -- a field that is given already, or one of no kind of control values
 abbrev pub field_fault : List ConfigField → List ℕ → ℕ → source.ConfigField → Option Fault
-field_fault known config n f = least (unless (not (is_some (field_in known config f.name))) Redefined n ++ kind_faults f.kind (n + 2))
+field_fault known config n f =
+    least (unless (not (is_some (field_in known config f.name))) Redefined n
+    ++ kind_faults f.kind (n + 2))
 
 -- ---- procedures and instructions
 
 -- the first rule that a procedure breaks, but for that on its name
 abbrev pub here_fault : Above → ℕ → Definition → Option Fault
 here_fault above n d =
-    definition_fault above.program.fields (memory_names above.program) (procedure_names above.program) (signatures above) above.next_id n d
+    definition_fault above.program.fields (memory_names above.program)
+    (procedure_names above.program) (signatures above) above.next_id n d
 
--- a procedure whose `def` is token n breaks no rule, and this is its tree, with the lines of its statements
-pub record IsHere (above : Above) (places : List Place) (template : Option (List ℕ)) (n : ℕ) (made : Defined) (d : Definition) : Type 0 where
+-- a procedure whose `def` is token n breaks no rule, and this is its tree, with the lines of its
+-- statements
+pub record IsHere (above : Above) (places : List Place) (template : Option (List ℕ)) (n : ℕ)
+    (made : Defined) (d : Definition) : Type 0 where
   pub keeps : here_fault above n d ≡ None
   pub procedure : plain.procedure made.procedure ≡ procedure_here above template d
   pub lines : made.lines ≡ map (line_at places) (block_starts (body_start n d) (block_of d.body))
@@ -73,7 +85,8 @@ pub record IsHere (above : Above) (places : List Place) (template : Option (List
   pub end : made.end ≡ definition_end n d
 
 -- it is put last, with its name, what it writes and its lines; all else is the same
-pub record IsPushed (t after : Typed) (name : List ℕ) (p : Procedure) (row : Row) (lines : ProcLines) : Type 0 where
+pub record IsPushed (t after : Typed) (name : List ℕ) (p : Procedure) (row : Row)
+    (lines : ProcLines) : Type 0 where
   pub procedures : after.unit.procs ≡ t.unit.procs ++ p ∷ []
   pub fields : after.unit.fields ≡ t.unit.fields
   pub memories : after.unit.memories ≡ t.unit.memories
@@ -86,7 +99,8 @@ pub record IsPushed (t after : Typed) (name : List ℕ) (p : Procedure) (row : R
   pub next_id : after.next_id ≡ t.next_id
 
 -- so it stands above what follows
-pub record IsProcedure (above : Above) (places : List Place) (t after : Typed) (template : Option (List ℕ)) (n end : ℕ) (d : Definition) : Type 0 where
+pub record IsProcedure (above : Above) (places : List Place) (t after : Typed)
+    (template : Option (List ℕ)) (n end : ℕ) (d : Definition) : Type 0 where
   pub keeps : procedure_fault above n d ≡ None
   pub ends : end ≡ definition_end n d
   pub stands : Stands after (with_procedure above d (procedure_here above template d))
@@ -97,7 +111,8 @@ pub record IsProcedure (above : Above) (places : List Place) (t after : Typed) (
 -- ---- items
 
 -- an item breaks no rule, and what it adds stands above the next one, which begins at token end
-pub record IsAdded (above : Above) (places : List Place) (t after : Typed) (n end : ℕ) (i : Item) : Type 0 where
+pub record IsAdded (above : Above) (places : List Place) (t after : Typed) (n end : ℕ)
+    (i : Item) : Type 0 where
   pub keeps : item_fault above n i ≡ None
   pub ends : end ≡ n + item_width i
   pub stands : Stands after (after_item above i)

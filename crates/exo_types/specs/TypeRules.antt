@@ -1,10 +1,13 @@
--- The rules on types, binders and memories, where parameters and statements name them. n is the number of the first token.
-use Rattle.std.specs.Prelude.{ℕ, ◌+◌, Bool, not, if◌then◌else◌, List, [], ◌∷◌, codes, Option, Some, None}
+-- The rules on types, binders and memories, where parameters and statements name them. n is the
+-- number of the first token.
+use Rattle.std.specs.Prelude.{ℕ, ◌+◌, Bool, not, if◌then◌else◌, List, [], ◌∷◌, codes, Option, Some}
+use Rattle.std.specs.Prelude.{None}
 use Rattle.std.specs.Option.{is_some}
 use Rattle.exo_tree.specs.Tree.{Kind, Size, Index, Truth, Stride, Cell, I8, I16, I32, Ui8, Binder}
 use Rattle.exo_meaning.specs.Units.{Scope, is_text}
 use Rattle.exo_reader.specs.Source.{TypeName, stride, named}
-use Rattle.rules_names.specs.declared.error.TypeKind.TheVariants.{UnknownName, Redefined, KindMismatch}
+use Rattle.rules_names.specs.declared.error.TypeKind.TheVariants.{UnknownName, Redefined}
+use Rattle.rules_names.specs.declared.error.TypeKind.TheVariants.{KindMismatch}
 use Rattle.rules_names.specs.declared.fault.Fault.{Fault}
 use Rattle.rules_names.specs.Faults.{fault, unless}
 use Rattle.rules_names.specs.Names.{named_in, name_number}
@@ -29,7 +32,12 @@ cell_named (named x) = cell_of_text x
 
 -- `size`, `index`, `bool` and `stride` are kinds of control values
 abbrev pub kind_of_text : List ℕ → Option Kind
-kind_of_text x = if is_text x (codes "size") then Some Size else (if is_text x (codes "index") then Some Index else (if is_text x (codes "bool") then Some Truth else None))
+kind_of_text x =
+    if is_text x (codes "size")
+    then Some Size
+    else (if is_text x (codes "index")
+    then Some Index
+    else (if is_text x (codes "bool") then Some Truth else None))
 
 abbrev pub kind_named : TypeName → Option Kind
 kind_named stride = Some Stride
@@ -41,7 +49,8 @@ no_cell_faults None n = fault UnknownName n
 no_cell_faults (Some kind) n = fault KindMismatch n
 
 abbrev pub cell_faults : TypeName → ℕ → List Fault
-cell_faults type n = elim (cell_named type) [ None ↦ no_cell_faults (kind_named type) n | Some cell ↦ [] ]
+cell_faults type n =
+    elim (cell_named type) [ None ↦ no_cell_faults (kind_named type) n | Some cell ↦ [] ]
 
 -- and the reverse
 abbrev pub no_kind_faults : Option Cell → ℕ → List Fault
@@ -49,7 +58,8 @@ no_kind_faults None n = fault UnknownName n
 no_kind_faults (Some cell) n = fault KindMismatch n
 
 abbrev pub kind_faults : TypeName → ℕ → List Fault
-kind_faults type n = elim (kind_named type) [ None ↦ no_kind_faults (cell_named type) n | Some kind ↦ [] ]
+kind_faults type n =
+    elim (kind_named type) [ None ↦ no_kind_faults (cell_named type) n | Some kind ↦ [] ]
 
 -- what stands where no rule is broken; else any
 abbrev pub cell_of : TypeName → Cell
@@ -76,7 +86,8 @@ abbrev pub named_memory_faults : Option ℕ → ℕ → List Fault
 named_memory_faults None n = fault UnknownName n
 named_memory_faults (Some m) n = []
 
--- the memory behind an `@`, which is token n; where none is named, it is the first one, which is always there
+-- the memory behind an `@`, which is token n; where none is named, it is the first one, which is
+-- always there
 abbrev pub memory_faults : List (List ℕ) → ℕ → Option (List ℕ) → List Fault
 memory_faults memories n None = []
 memory_faults memories n (Some x) = named_memory_faults (name_number memories x) (n + 1)

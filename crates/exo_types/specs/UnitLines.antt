@@ -1,16 +1,19 @@
 -- The text lines of a unit's procedures and statements.
-use Rattle.std.specs.Prelude.{ℕ, ◌+◌, List, [], ◌∷◌, ◌++◌, length, map, slice_get, Option, Some, None}
+use Rattle.std.specs.Prelude.{ℕ, ◌+◌, List, [], ◌∷◌, ◌++◌, length, map, slice_get, Option, Some}
+use Rattle.std.specs.Prelude.{None}
 use Rattle.exo_tree.specs.declared.lines.ProcLines.{ProcLines}
 use Rattle.text_lexer.specs.declared.place.Place.{Place}
 use Rattle.exo_reader.specs.Source as source
-use Rattle.exo_reader.specs.Source.{Statement, pass, branch, loop, allocate, call, configure, assign, reduce, view, Block, end, next, Definition, Item, procedure, instruction, configuration, memory}
+use Rattle.exo_reader.specs.Source.{Statement, pass, branch, loop, allocate, call, configure}
+use Rattle.exo_reader.specs.Source.{assign, reduce, view, Block, end, next, Definition, Item}
+use Rattle.exo_reader.specs.Source.{procedure, instruction, configuration, memory}
 use Rattle.exo_types.specs.UnitRules.{item_width}
 use Rattle.rules_names.specs.ExpressionRules.{width}
 use Rattle.exo_types.specs.StatementRules.{statement_width, block_width}
 use Rattle.exo_types.specs.ItemRules.{body_start}
 
--- The numbers of the first tokens of the statements inside a statement, and of a block with those inside them, in preorder; n is that
--- of its own first token.
+-- The numbers of the first tokens of the statements inside a statement, and of a block with those
+-- inside them, in preorder; n is that of its own first token.
 abbrev mutual
   pub inner_starts : ℕ → Statement → List ℕ
   inner_starts n pass = []
@@ -39,18 +42,23 @@ line_at places n = line_of (slice_get places n)
 
 -- n is the number of the token `def`
 abbrev pub lines_of_definition : List Place → ℕ → Definition → ProcLines
-lines_of_definition places n d = record { def = line_at places n; statements = map (line_at places) (block_starts (body_start n d) (source.block_of d.body)) }
+lines_of_definition places n d = record {
+  def = line_at places n;
+  statements = map (line_at places) (block_starts (body_start n d) (source.block_of d.body));
+}
 
 abbrev pub lines_of_item : List Place → ℕ → Item → List ProcLines
 lines_of_item places n (procedure d) = lines_of_definition places (n + 2) d ∷ []
-lines_of_item places n (instruction template d) = lines_of_definition places (n + 2 + length template + 2) d ∷ []
+lines_of_item places n (instruction template d) =
+    lines_of_definition places (n + 2 + length template + 2) d ∷ []
 lines_of_item places n (configuration x fs) = []
 lines_of_item places n (memory x settings) = []
 
 -- one entry for each procedure and instruction, in their order
 abbrev pub lines_from : List Place → ℕ → List Item → List ProcLines
 lines_from places n [] = []
-lines_from places n (i ∷ more) = lines_of_item places n i ++ lines_from places (n + item_width i) more
+lines_from places n (i ∷ more) =
+    lines_of_item places n i ++ lines_from places (n + item_width i) more
 
 abbrev pub lines_of : List Place → List Item → List ProcLines
 lines_of places items = lines_from places 0 items

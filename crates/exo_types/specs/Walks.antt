@@ -1,5 +1,7 @@
--- What a walk through the statements of a procedure keeps, and what it makes of a statement and of a block.
-use Rattle.std.specs.Prelude.{◌≡◌, ℕ, ◌+◌, ◌<◌, ◌≤◌, Bool, true, false, List, [], ◌∷◌, ◌++◌, length, map, take, Option, None, Result, MatchResult}
+-- What a walk through the statements of a procedure keeps, and what it makes of a statement and of
+-- a block.
+use Rattle.std.specs.Prelude.{◌≡◌, ℕ, ◌+◌, ◌<◌, ◌≤◌, Bool, true, false, List, [], ◌∷◌, ◌++◌, length}
+use Rattle.std.specs.Prelude.{map, take, Option, None, Result, MatchResult}
 use Rattle.exo_tree.specs.Tree as tree
 use Rattle.exo_tree.specs.Tree.{Procedure}
 use Rattle.exo_meaning.specs.Run.{roots_after}
@@ -32,13 +34,14 @@ signatures_in c = signatures_by c.above.procs.now (rows_write c.above.rows.now)
 
 -- ---- what a walk needs
 
--- the ids of the names in scope are below this one, and each is below those of the names that were given later
+-- the ids of the names in scope are below this one, and each is below those of the names that were
+-- given later
 abbrev pub Falls : ℕ → Scope → Type 0
 Falls id [] = Unit {0}
 Falls id (n ∷ scope) = (n.binder.id < id) × Falls n.binder.id scope
 
--- There is room for so many tokens from token n on: each binder takes a token of its own, and each token has a place. The tables are no longer
--- than their numbers reach, and the ids in scope fall.
+-- There is room for so many tokens from token n on: each binder takes a token of its own, and each
+-- token has a place. The tables are no longer than their numbers reach, and the ids in scope fall.
 pub record HasRoom (c : Context) (w : Walk) (n width : ℕ) : Type 0 where
   pub ids : w.next_id ≤ n
   pub tokens : n + width < length c.places.now
@@ -51,28 +54,39 @@ module _ (c : Context) where
   -- ---- what the rules say of a statement and of a block whose first token is n
 
   abbrev pub own_faults : Walk → ℕ → Statement → List Fault
-  own_faults w n s = rules.own_faults c.fields.now c.memories.now c.procedures.now (signatures_in c) w.scope (roots_in w.aliases.items) n s
+  own_faults w n s =
+      rules.own_faults c.fields.now c.memories.now c.procedures.now (signatures_in c) w.scope
+      (roots_in w.aliases.items) n s
 
   abbrev pub own_fault : Walk → ℕ → Statement → Option Fault
   own_fault w n s = least (own_faults w n s)
 
   abbrev pub statement_fault : Walk → ℕ → Statement → Option Fault
-  statement_fault w n s = rules.statement_fault c.fields.now c.memories.now c.procedures.now (signatures_in c) w.next_id w.scope (roots_in w.aliases.items) n s
+  statement_fault w n s =
+      rules.statement_fault c.fields.now c.memories.now c.procedures.now (signatures_in c) w.next_id
+      w.scope (roots_in w.aliases.items) n s
 
   abbrev pub statement_of : Walk → Statement → tree.Statement
-  statement_of w s = rules.statement_of c.fields.now c.memories.now c.procedures.now (signatures_in c) w.next_id w.scope s
+  statement_of w s =
+      rules.statement_of c.fields.now c.memories.now c.procedures.now (signatures_in c) w.next_id
+      w.scope s
 
   abbrev pub block_fault : Walk → ℕ → Block → Option Fault
-  block_fault w n b = rules.block_fault c.fields.now c.memories.now c.procedures.now (signatures_in c) w.next_id w.scope (roots_in w.aliases.items) n b
+  block_fault w n b =
+      rules.block_fault c.fields.now c.memories.now c.procedures.now (signatures_in c) w.next_id
+      w.scope (roots_in w.aliases.items) n b
 
   abbrev pub block_of : Walk → Block → tree.Block
-  block_of w b = rules.block_of c.fields.now c.memories.now c.procedures.now (signatures_in c) w.next_id w.scope b
+  block_of w b =
+      rules.block_of c.fields.now c.memories.now c.procedures.now (signatures_in c) w.next_id
+      w.scope b
 
   -- ---- what a walk makes
 
-  -- A statement breaks no rule, and this is its tree. Behind it the names that it binds are in scope, and the lines of the statements
-  -- inside it are told.
-  pub record IsStatement (before after : Walk) (made : tree.Statement) (n : ℕ) (s : Statement) : Type 0 where
+  -- A statement breaks no rule, and this is its tree. Behind it the names that it binds are in
+  -- scope, and the lines of the statements inside it are told.
+  pub record IsStatement (before after : Walk) (made : tree.Statement) (n : ℕ)
+      (s : Statement) : Type 0 where
     pub keeps : statement_fault before n s ≡ None
     pub means : made ≡ statement_of before s
     pub scope : after.scope ≡ scope_after made before.scope
@@ -82,7 +96,8 @@ module _ (c : Context) where
     pub lines : after.lines ≡ before.lines ++ map (line_at c.places.now) (inner_starts n s)
 
   -- a block breaks no rule, and this is its tree; its names end with it, and its lines are told
-  pub record IsBlock (before after : Walk) (made : List tree.Statement) (n : ℕ) (b : Block) : Type 0 where
+  pub record IsBlock (before after : Walk) (made : List tree.Statement) (n : ℕ)
+      (b : Block) : Type 0 where
     pub keeps : block_fault before n b ≡ None
     pub means : tree.block made ≡ block_of before b
     pub scope : after.scope ≡ before.scope
@@ -91,19 +106,26 @@ module _ (c : Context) where
     pub lines : after.lines ≡ before.lines ++ map (line_at c.places.now) (block_starts n b)
 
   -- it is put last in a block, and the token behind it has that number
-  pub record IsPut (before after : Walk) (old new : List tree.Statement) (n end : ℕ) (s : Statement) : Type 0 where
+  pub record IsPut (before after : Walk) (old new : List tree.Statement) (n end : ℕ)
+      (s : Statement) : Type 0 where
     pub made : tree.Statement
     pub one : IsStatement before after made n s
     pub last : new ≡ old ++ made ∷ []
     pub ends : end ≡ n + statement_width s
 
   -- the statement is put last, or the first rule that it breaks is told
-  abbrev pub Puts : Walk → Walk → List tree.Statement → List tree.Statement → ℕ → Statement → Result ℕ Refusal → Type 0
-  Puts before after old new n s result = MatchResult result (λ end. IsPut before after old new n end s) (λ e. Refuses e (statement_fault before n s))
+  abbrev pub Puts :
+      Walk → Walk → List tree.Statement → List tree.Statement → ℕ → Statement → Result ℕ Refusal
+      → Type 0
+  Puts before after old new n s result =
+      MatchResult result (λ end. IsPut before after old new n end s)
+      (λ e. Refuses e (statement_fault before n s))
 
   -- the block is made, or the first rule that it breaks is told
   abbrev pub MakesBlock : Walk → Walk → List tree.Statement → ℕ → Block → Result ℕ Refusal → Type 0
-  MakesBlock before after made n b result = MatchResult result (λ _. IsBlock before after made n b) (λ e. Refuses e (block_fault before n b))
+  MakesBlock before after made n b result =
+      MatchResult result (λ _. IsBlock before after made n b)
+      (λ e. Refuses e (block_fault before n b))
 
 -- ---- writes of a cell: a reduction, or an assignment
 

@@ -11,4 +11,8 @@ size (p ∷ ps) = suc (size ps)
 
 -- it is called by its number, and all that stands above it can be called in the whole unit too
 abbrev pub AboveLaw : Type 0
-AboveLaw = (kinds : ℕ → Kind) (before : List Procedure) (q : Procedure) (after : List Procedure) → let above = unit_world kinds before in let world = unit_world kinds (before ++ q ∷ after) in IsWider above world × (world.callees (size before) ≡ Some (callee_in above q))
+AboveLaw =
+    (kinds : ℕ → Kind) (before : List Procedure) (q : Procedure) (after : List Procedure)
+    → let above = unit_world kinds before in
+    let world = unit_world kinds (before ++ q ∷ after) in
+    IsWider above world × (world.callees (size before) ≡ Some (callee_in above q))

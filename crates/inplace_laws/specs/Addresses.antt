@@ -21,7 +21,11 @@ AreStored spots cells store = (b : ℕ) (at : List ℤ) → cells b at ≡ store
 
 -- no two cells have one address
 abbrev pub AreSeparate : {T : Type 0} → Spots T → Type 0
-AreSeparate {T} spots = (b c : ℕ) (at to : List ℤ) (t : T) → spots b at ≡ Some t → spots c to ≡ Some t → (b ≡ c) × (at ≡ to)
+AreSeparate {T} spots =
+    (b c : ℕ) (at to : List ℤ) (t : T)
+    → spots b at ≡ Some t
+    → spots c to ≡ Some t
+    → (b ≡ c) × (at ≡ to)
 
 abbrev pub spots_through : {T : Type 0} → Spots T → Option Seen → List ℤ → Option T
 spots_through spots None is = None
@@ -33,8 +37,28 @@ callee_spots ps gs spots x = spots_through spots (base_of ps gs x)
 
 -- what a callee finds is what stands in the store
 abbrev pub EntryLaw : Type 1
-EntryLaw = (T : Type 0) (spots : Spots T) (store : T → Value) (ps : List Param) (gs : List Given) (s inner : State) → AreDistinct ps → entered ps gs s ≡ Some inner → AreStored spots s.cells store → AreStored (callee_spots ps gs spots) inner.cells store
+EntryLaw =
+    (T : Type 0) (spots : Spots T) (store : T → Value) (ps : List Param) (gs : List Given)
+    (s inner : State)
+    → AreDistinct ps
+    → entered ps gs s ≡ Some inner
+    → AreStored spots s.cells store
+    → AreStored (callee_spots ps gs spots) inner.cells store
 
 -- the store after a callee that worked in place is that of the state after the call by copies
 abbrev pub ExitLaw : Type 1
-ExitLaw = (T : Type 0) (spots : Spots T) (store after : T → Value) (writes : ℕ → Bool) (ps : List Param) (gs : List Given) (cells done : Cells) → AreDistinct ps → AreSeparate spots → AreStored spots cells store → ((x : ℕ) (z : Seen) → is_buffer_of x ps ≡ true → base_of ps gs x ≡ Some z → (is : List ℤ) → done x is ≡ stored after (callee_spots ps gs spots x is)) → ((t : T) → ((x : ℕ) (is : List ℤ) → writes x ≡ true → callee_spots ps gs spots x is ≡ Some t → ⊥) → after t ≡ store t) → AreStored spots (copied_back writes ps gs done cells) after
+ExitLaw =
+    (T : Type 0) (spots : Spots T) (store after : T → Value) (writes : ℕ → Bool) (ps : List Param)
+    (gs : List Given) (cells done : Cells)
+    → AreDistinct ps
+    → AreSeparate spots
+    → AreStored spots cells store
+    → ((x : ℕ) (z : Seen)
+    → is_buffer_of x ps ≡ true
+    → base_of ps gs x ≡ Some z
+    → (is : List ℤ)
+    → done x is ≡ stored after (callee_spots ps gs spots x is))
+    → ((t : T)
+    → ((x : ℕ) (is : List ℤ) → writes x ≡ true → callee_spots ps gs spots x is ≡ Some t → ⊥)
+    → after t ≡ store t)
+    → AreStored spots (copied_back writes ps gs done cells) after

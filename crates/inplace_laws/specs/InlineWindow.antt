@@ -14,4 +14,18 @@ is_name w y = y == w
 
 -- the view, and all that follows it in its block
 abbrev pub InlineWindowRefines : Type 0
-InlineWindowRefines = (kinds : ℕ → Kind) (ps : List Procedure) (p : Procedure) (c : Context) (w : Binder) (x : ℕ) (coords : List Coord) (b : Block) → p.body ≡ fill c (next (View w x coords) b) → rest_of c ≡ end → IsFree p c w.id → (x == w.id) ≡ false → are_plain coords ≡ true → has_binder b w.id ≡ false → has_binder b x ≡ false → ((y : ℕ) → coords_have coords y ≡ true → has_binder b y ≡ false) → mentions (is_name w.id) (in_block w.id (Window x coords) b) ≡ false → Refines (unit_world kinds ps) p (record p { body = fill c (in_block w.id (Window x coords) b) }) []
+InlineWindowRefines =
+    (kinds : ℕ → Kind) (ps : List Procedure) (p : Procedure) (c : Context) (w : Binder) (x : ℕ)
+    (coords : List Coord) (b : Block)
+    → p.body ≡ fill c (next (View w x coords) b)
+    → rest_of c ≡ end
+    → IsFree p c w.id
+    → (x == w.id) ≡ false
+    → are_plain coords ≡ true
+    → has_binder b w.id ≡ false
+    → has_binder b x ≡ false
+    → ((y : ℕ) → coords_have coords y ≡ true → has_binder b y ≡ false)
+    → mentions (is_name w.id) (in_block w.id (Window x coords) b) ≡ false
+    → Refines (unit_world kinds ps) p
+    (record p { body = fill c (in_block w.id (Window x coords) b) })
+    []

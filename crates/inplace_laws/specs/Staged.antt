@@ -13,10 +13,14 @@ use Rattle.inplace_laws.specs.InPlace.{makes}
 
 -- a buffer of its own with the cells of the window
 abbrev pub staged : ℕ → Seen → Shape → State → State
-staged a seen to s = with_contents a (contents s.cells seen) (on_scene (with_buffer a (tensor to.cell (extents seen.sides))) s)
+staged a seen to s =
+    with_contents a (contents s.cells seen)
+    (on_scene (with_buffer a (tensor to.cell (extents seen.sides))) s)
 
--- the block uses a for the window; all names of the window's buffer are hidden from it, and no other; it does not look at the strides of a
-pub record MayStage (hidden blind : ℕ → Bool) (world : World) (root : ℕ → ℕ) (a : ℕ) (seen : Seen) (to : Shape) (b : Block) (s : State) : Type 0 where
+-- the block uses a for the window; all names of the window's buffer are hidden from it, and no
+-- other; it does not look at the strides of a
+pub record MayStage (hidden blind : ℕ → Bool) (world : World) (root : ℕ → ℕ) (a : ℕ) (seen : Seen)
+    (to : Shape) (b : Block) (s : State) : Type 0 where
   pub sound : IsSound s
   pub there : s.scene.buffers seen.buffer ≡ Some to
   pub new : IsUnbound s a
@@ -24,7 +28,8 @@ pub record MayStage (hidden blind : ℕ → Bool) (world : World) (root : ℕ �
   pub blinds : blind a ≡ true
   pub hides : hidden seen.buffer ≡ true
   pub only : (y : ℕ) → hidden y ≡ true → IsSome (s.scene.buffers y) → y ≡ seen.buffer
-  pub views : (y : ℕ) (z : Seen) → hidden y ≡ false → s.scene.views y ≡ Some z → hidden z.buffer ≡ false
+  pub views :
+      (y : ℕ) (z : Seen) → hidden y ≡ false → s.scene.views y ≡ Some z → hidden z.buffer ≡ false
   pub names : in_block hidden blind b ≡ false
   pub not_made : makes b a ≡ false
   pub roots : HasRoots root (staged a seen to s).scene
@@ -33,7 +38,16 @@ pub record MayStage (hidden blind : ℕ → Bool) (world : World) (root : ℕ �
 -- a run on the window, and a run on the staged buffer that is then copied back
 pub record StagedAlike (a : ℕ) (seen : Seen) (s t u : State) : Type 0 where
   pub fields : t.scene.fields ≡ u.scene.fields
-  pub cells : (y : ℕ) (at : List ℤ) → IsSome (s.scene.buffers y) → copy_back true (GivenView seen) (t.cells a) t.cells y at ≡ u.cells y at
+  pub cells :
+      (y : ℕ) (at : List ℤ)
+      → IsSome (s.scene.buffers y)
+      → copy_back true (GivenView seen) (t.cells a) t.cells y at ≡ u.cells y at
 
 abbrev pub StagedLaw : Type 0
-StagedLaw = (hidden blind : ℕ → Bool) (world : World) (root : ℕ → ℕ) (a : ℕ) (seen : Seen) (to : Shape) (b : Block) (s : State) → MayStage hidden blind world root a seen to b s → Both (StagedAlike a seen s) (run world b (staged a seen to s)) (run world b (on_scene (with_view a seen) s))
+StagedLaw =
+    (hidden blind : ℕ → Bool) (world : World) (root : ℕ → ℕ) (a : ℕ) (seen : Seen) (to : Shape)
+    (b : Block) (s : State)
+    → MayStage hidden blind world root a seen to b s
+    → Both (StagedAlike a seen s)
+    (run world b (staged a seen to s))
+    (run world b (on_scene (with_view a seen) s))

@@ -1,8 +1,14 @@
 -- What a block uses of names and of strides.
 use Rattle.std.specs.Prelude.{ℕ, Bool, false, not, ◌&&◌, ◌||◌, List, [], ◌∷◌}
-use Rattle.exo_tree.specs.Tree.{Control, Lit, Var, Field, StrideOf, Neg, Add, Sub, Mul, Div, Mod, Condition, True, False, Flag, FieldFlag, Lt, Le, Gt, Ge, Eq, And, Or, Datum, Const, Read, Negated, Relu, Plus, Minus, Times, Select, Coord, At, Span, Argument, ControlArg, ConditionArg, Whole, Window, Statement, Assign, Reduce, Config, Pass, If, For, Alloc, View, Call, Block, end, next}
+use Rattle.exo_tree.specs.Tree.{Control, Lit, Var, Field, StrideOf, Neg, Add, Sub, Mul, Div, Mod}
+use Rattle.exo_tree.specs.Tree.{Condition, True, False, Flag, FieldFlag, Lt, Le, Gt, Ge, Eq, And}
+use Rattle.exo_tree.specs.Tree.{Or, Datum, Const, Read, Negated, Relu, Plus, Minus, Times, Select}
+use Rattle.exo_tree.specs.Tree.{Coord, At, Span, Argument, ControlArg, ConditionArg, Whole, Window}
+use Rattle.exo_tree.specs.Tree.{Statement, Assign, Reduce, Config, Pass, If, For, Alloc, View, Call}
+use Rattle.exo_tree.specs.Tree.{Block, end, next}
 
--- whether a tree uses or binds a hidden id, looks at the strides of a blind one, passes it, or gives it a name that is not blind
+-- whether a tree uses or binds a hidden id, looks at the strides of a blind one, passes it, or
+-- gives it a name that is not blind
 module _ (hidden blind : ℕ → Bool) where
   abbrev pub in_control : Control → Bool
   in_control (Lit n) = false
@@ -67,7 +73,8 @@ module _ (hidden blind : ℕ → Bool) where
     in_statement (If c a b) = in_condition c || (in_block a || in_block b)
     in_statement (For i lo hi b) = hidden i.id || (in_control lo || (in_control hi || in_block b))
     in_statement (Alloc x cell dims memory) = hidden x.id || in_controls dims
-    in_statement (View w x coords) = (not (blind w.id) && blind x) || (hidden w.id || (hidden x || in_coords coords))
+    in_statement (View w x coords) =
+        (not (blind w.id) && blind x) || (hidden w.id || (hidden x || in_coords coords))
     in_statement (Call k args) = in_arguments args
 
     pub in_block : Block → Bool

@@ -1,7 +1,13 @@
 -- A window in the place of a name.
 use Rattle.meaning_laws.specs.Scoped.{has_binder}
-use Rattle.std.specs.Prelude.{◌≡◌, ◌==◌, ◌||◌, ◌&&◌, cond, ℕ, zero, suc, Bool, true, false, List, [], ◌∷◌, Option, Some, None, IfSome}
-use Rattle.exo_tree.specs.Tree.{Control, Lit, Var, Field, StrideOf, Neg, Add, Sub, Mul, Div, Mod, Condition, True, False, Flag, FieldFlag, Lt, Le, Gt, Ge, Eq, And, Or, Datum, Const, Read, Negated, Relu, Plus, Minus, Times, Select, Coord, At, Span, Argument, ControlArg, ConditionArg, Whole, Window, Statement, Assign, Reduce, Config, Pass, If, For, Alloc, View, Call, Block, end, next}
+use Rattle.std.specs.Prelude.{◌≡◌, ◌==◌, ◌||◌, ◌&&◌, cond, ℕ, zero, suc, Bool, true, false, List}
+use Rattle.std.specs.Prelude.{[], ◌∷◌, Option, Some, None, IfSome}
+use Rattle.exo_tree.specs.Tree.{Control, Lit, Var, Field, StrideOf, Neg, Add, Sub, Mul, Div, Mod}
+use Rattle.exo_tree.specs.Tree.{Condition, True, False, Flag, FieldFlag, Lt, Le, Gt, Ge, Eq, And}
+use Rattle.exo_tree.specs.Tree.{Or, Datum, Const, Read, Negated, Relu, Plus, Minus, Times, Select}
+use Rattle.exo_tree.specs.Tree.{Coord, At, Span, Argument, ControlArg, ConditionArg, Whole, Window}
+use Rattle.exo_tree.specs.Tree.{Statement, Assign, Reduce, Config, Pass, If, For, Alloc, View, Call}
+use Rattle.exo_tree.specs.Tree.{Block, end, next}
 use Rattle.exo_meaning.specs.Scene.{Seen, Scene, window}
 use Rattle.exo_meaning.specs.State.{State}
 use Rattle.exo_meaning.specs.Run.{World, run}
@@ -105,7 +111,8 @@ module _ (w : ℕ) (t : Argument) where
   in_argument (ControlArg a) = ControlArg (in_control a)
   in_argument (ConditionArg c) = ConditionArg (in_condition c)
   in_argument (Whole y) = cond (y == w) t (Whole y)
-  in_argument (Window y coords) = Window (to_name y) (joined_coords (coords_at y) (in_coords coords))
+  in_argument (Window y coords) =
+      Window (to_name y) (joined_coords (coords_at y) (in_coords coords))
 
   abbrev pub in_arguments : List Argument → List Argument
   in_arguments [] = []
@@ -113,14 +120,17 @@ module _ (w : ℕ) (t : Argument) where
 
   abbrev mutual
     pub in_statement : Statement → Statement
-    in_statement (Assign y is e) = Assign (to_name y) (shifted (coords_at y) (in_controls is)) (in_datum e)
-    in_statement (Reduce y is e) = Reduce (to_name y) (shifted (coords_at y) (in_controls is)) (in_datum e)
+    in_statement (Assign y is e) =
+        Assign (to_name y) (shifted (coords_at y) (in_controls is)) (in_datum e)
+    in_statement (Reduce y is e) =
+        Reduce (to_name y) (shifted (coords_at y) (in_controls is)) (in_datum e)
     in_statement (Config f a) = Config f (in_argument a)
     in_statement Pass = Pass
     in_statement (If c a b) = If (in_condition c) (in_block a) (in_block b)
     in_statement (For x lo hi b) = For x (in_control lo) (in_control hi) (in_block b)
     in_statement (Alloc x cell dims memory) = Alloc x cell (in_controls dims) memory
-    in_statement (View v y coords) = View v (to_name y) (joined_coords (coords_at y) (in_coords coords))
+    in_statement (View v y coords) =
+        View v (to_name y) (joined_coords (coords_at y) (in_coords coords))
     in_statement (Call k args) = Call k (in_arguments args)
 
     pub in_block : Block → Block
@@ -139,7 +149,8 @@ coords_have [] y = false
 coords_have (At a ∷ cs) y = has_variable a y || coords_have cs y
 coords_have (Span a b ∷ cs) y = has_variable a y || (has_variable b y || coords_have cs y)
 
--- the window stands for the name, in this state and in each one that differs in the block's binders alone
+-- the window stands for the name, in this state and in each one that differs in the block's binders
+-- alone
 pub record MayStandIn (w : ℕ) (t : Argument) (b : Block) (s : State) : Type 0 where
   pub seen : Seen
   pub name : s.scene.views w ≡ Some seen
@@ -149,6 +160,10 @@ pub record MayStandIn (w : ℕ) (t : Argument) (b : Block) (s : State) : Type 0 
   pub root : has_binder b (root_in t w) ≡ false
   pub variables : (y : ℕ) → coords_have (coords_of t) y ≡ true → has_binder b y ≡ false
 
--- where a run of the block gives something, a run with the window in the place of the name gives the same
+-- where a run of the block gives something, a run with the window in the place of the name gives
+-- the same
 abbrev pub WindowLaw : Type 0
-WindowLaw = (world : World) (w : ℕ) (t : Argument) (b : Block) (s : State) → MayStandIn w t b s → IfSome (run world b s) (λ a. run world (in_block w t b) s ≡ Some a)
+WindowLaw =
+    (world : World) (w : ℕ) (t : Argument) (b : Block) (s : State)
+    → MayStandIn w t b s
+    → IfSome (run world b s) (λ a. run world (in_block w t b) s ≡ Some a)

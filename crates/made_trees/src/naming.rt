@@ -5,7 +5,8 @@ ghost use Rattle.exo_tree.specs.PlainBinder.{binding};
 ghost use Rattle.exo_tree.specs.PlainParam.{parameter};
 ghost use Rattle.exo_tree.specs.PlainProcedure.{procedure};
 ghost use Rattle.exo_tree.specs.PlainStatement.{statement};
-ghost use Rattle.made_trees.specs.Names.{closed, name_given, with_binder, name_statement, name_statements};
+ghost use Rattle.made_trees.specs.Names.{closed, name_given, with_binder, name_statement};
+ghost use Rattle.made_trees.specs.Names.{name_statements};
 ghost use Rattle.made_trees.specs.Names.{tops, first_naming};
 ghost use Rattle.made_trees.specs.Walked.{naming, top_level};
 
@@ -41,7 +42,8 @@ impl Walk {
 
     /// The name of a binder in a block with those names at its top level.
     fn name(&self, alloc: Global, copies: u32, top: &[Name], x: &Binder) -> Result<Name, AllocError>
-        ensures { IfOk result (λ n. n ≡ name_given copies top.now (naming self.now) (binding x.now)) }
+        ensures { IfOk result
+            (λ n. n ≡ name_given copies top.now (naming self.now) (binding x.now)) }
     {
         let name = x.name.as_str();
         if x.id.0 < copies {
@@ -61,7 +63,8 @@ impl Walk {
         top: &[Name],
         x: &Binder,
     ) -> Result<(), AllocError>
-        ensures { OnOk result (naming self.new ≡ with_binder copies top.now (naming self.old) (binding x.now)) }
+        ensures { OnOk result
+            (naming self.new ≡ with_binder copies top.now (naming self.old) (binding x.now)) }
     {
         let name = self.name(alloc, copies, top, x)?;
         put(&mut self.scope, alloc, &name)?;
@@ -78,7 +81,8 @@ impl Walk {
         copies: u32,
         b: &Block,
     ) -> Result<(), AllocError>
-        ensures { OnOk result (naming self.new ≡ name_statements copies (tops copies (block b.now)) (naming self.old) (block b.now)) }
+        ensures { OnOk result (naming self.new ≡ name_statements copies (tops copies (block b.now))
+            (naming self.old) (block b.now)) }
     {
         let top = Tops::of(alloc, copies, b)?;
         for k in 0..b.len() {
@@ -90,7 +94,8 @@ impl Walk {
     /// The same of a block inside another. Behind it its names are not in scope.
     #[cycle(naming)]
     fn branch(&mut self, alloc: Global, copies: u32, b: &Block) -> Result<(), AllocError>
-        ensures { OnOk result (naming self.new ≡ closed (naming self.old) (name_statements copies (tops copies (block b.now)) (naming self.old) (block b.now))) }
+        ensures { OnOk result (naming self.new ≡ closed (naming self.old)
+            (name_statements copies (tops copies (block b.now)) (naming self.old) (block b.now))) }
     {
         let known = self.scope.len();
         self.statements(alloc, copies, b)?;
@@ -107,7 +112,8 @@ impl Walk {
         top: &Tops,
         s: &Stmt,
     ) -> Result<(), AllocError>
-        ensures { OnOk result (naming self.new ≡ name_statement copies (top_level top.now) (naming self.old) (statement s.now)) }
+        ensures { OnOk result (naming self.new ≡ name_statement copies (top_level top.now)
+            (naming self.old) (statement s.now)) }
     {
         match s {
             Stmt::If(_, a, b) => {

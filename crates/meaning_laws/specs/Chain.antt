@@ -13,4 +13,10 @@ abbrev pub HasHead : Procedure → Procedure → Type 0
 HasHead p q = (p.params ≡ q.params) × (p.asserts ≡ q.asserts)
 
 abbrev pub ChainLaw : Type 0
-ChainLaw = (world : World) (p q r : Procedure) (but more : List ℕ) → HasHead p q → NeverFaults world q → Refines world p q but → Refines world q r more → Refines world p r (but ++ more)
+ChainLaw =
+    (world : World) (p q r : Procedure) (but more : List ℕ)
+    → HasHead p q
+    → NeverFaults world q
+    → Refines world p q but
+    → Refines world q r more
+    → Refines world p r (but ++ more)

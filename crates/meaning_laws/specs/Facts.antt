@@ -1,6 +1,7 @@
 -- What is known at a place.
 use Rattle.std.specs.Prelude.{◌≡◌, ◌&&◌, ◌||◌, ◌==◌, ℕ, Bool, true, false, List, [], ◌∷◌, ⊤}
-use Rattle.exo_tree.specs.Tree.{Var, Condition, True, False, Flag, FieldFlag, Lt, Le, Gt, Ge, Eq, And, Or, Block}
+use Rattle.exo_tree.specs.Tree.{Var, Condition, True, False, Flag, FieldFlag, Lt, Le, Gt, Ge, Eq}
+use Rattle.exo_tree.specs.Tree.{And, Or, Block}
 use Rattle.exo_meaning.specs.Scene.{Scene, holds}
 use Rattle.exo_meaning.specs.State.{State}
 use Rattle.exo_meaning.specs.Run.{World}
@@ -64,14 +65,30 @@ IsSteady c t = (x : ℕ) → condition_has t x ≡ true → on_way c x ≡ false
 abbrev pub AreSteady : Context → Type 0
 AreSteady (Here rest) = ⊤
 AreSteady (After a c) = AreSteady c
-AreSteady (InLoop i lo hi c rest) = (is_plain lo ≡ true) × (is_plain hi ≡ true) × (has_variable lo i.id ≡ false) × (has_variable hi i.id ≡ false) × IsSteady c (Le lo (Var i.id)) × IsSteady c (Lt (Var i.id) hi) × AreSteady c
+AreSteady (InLoop i lo hi c rest) =
+    (is_plain lo ≡ true)
+    × (is_plain hi ≡ true)
+    × (has_variable lo i.id ≡ false)
+    × (has_variable hi i.id ≡ false)
+    × IsSteady c (Le lo (Var i.id))
+    × IsSteady c (Lt (Var i.id) hi)
+    × AreSteady c
 AreSteady (InThen t c other rest) = IsSteady c t × AreSteady c
 AreSteady (InElse t other c rest) = IsSteady c t × AreSteady c
 
 -- the facts hold in each state in which a run comes to the hole
 abbrev pub FactsLaw : Type 0
-FactsLaw = (world : World) (old : Block) (c : Context) (s u : State) → AreSteady c → ComesTo world old c s u → Each (IsTrueAt u.scene) (facts c)
+FactsLaw =
+    (world : World) (old : Block) (c : Context) (s u : State)
+    → AreSteady c
+    → ComesTo world old c s u
+    → Each (IsTrueAt u.scene) (facts c)
 
 -- so does what held at first
 abbrev pub SteadyLaw : Type 0
-SteadyLaw = (world : World) (old : Block) (c : Context) (s u : State) (t : Condition) → is_plain_condition t ≡ true → IsSteady c t → ComesTo world old c s u → holds u.scene t ≡ holds s.scene t
+SteadyLaw =
+    (world : World) (old : Block) (c : Context) (s u : State) (t : Condition)
+    → is_plain_condition t ≡ true
+    → IsSteady c t
+    → ComesTo world old c s u
+    → holds u.scene t ≡ holds s.scene t

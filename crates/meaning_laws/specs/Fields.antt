@@ -1,6 +1,7 @@
 -- Fields that a block may write.
 use Rattle.std.specs.Prelude.{◌≡◌, ◌==◌, ◌||◌, ℕ, Bool, false, List, IfSome}
-use Rattle.exo_tree.specs.Tree.{Argument, Statement, Assign, Reduce, Config, Pass, If, For, Alloc, View, Call, Block, end, next}
+use Rattle.exo_tree.specs.Tree.{Argument, Statement, Assign, Reduce, Config, Pass, If, For, Alloc}
+use Rattle.exo_tree.specs.Tree.{View, Call, Block, end, next}
 use Rattle.exo_meaning.specs.State.{State}
 use Rattle.exo_meaning.specs.Run.{World, run, call_to}
 
@@ -25,8 +26,18 @@ abbrev pub HasField : ℕ → State → State → Type 0
 HasField f s t = t.scene.fields f ≡ s.scene.fields f
 
 abbrev pub CallsLeave : World → (ℕ → ℕ → Bool) → Type 0
-CallsLeave world calls = (k f : ℕ) → calls k f ≡ false → (args : List Argument) (s : State) → IfSome (call_to (world.callees k) args s) (HasField f s)
+CallsLeave world calls =
+    (k f : ℕ)
+    → calls k f ≡ false
+    → (args : List Argument) (s : State)
+    → IfSome (call_to (world.callees k) args s) (HasField f s)
 
 -- a field that a block does not write keeps its number
 abbrev pub FieldsAreKept : Type 0
-FieldsAreKept = (world : World) (calls : ℕ → ℕ → Bool) → CallsLeave world calls → (f : ℕ) (b : Block) → writes_field calls f b ≡ false → (s : State) → IfSome (run world b s) (HasField f s)
+FieldsAreKept =
+    (world : World) (calls : ℕ → ℕ → Bool)
+    → CallsLeave world calls
+    → (f : ℕ) (b : Block)
+    → writes_field calls f b ≡ false
+    → (s : State)
+    → IfSome (run world b s) (HasField f s)

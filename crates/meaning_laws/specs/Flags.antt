@@ -1,6 +1,9 @@
 -- A condition in the place of a flag.
 use Rattle.std.specs.Prelude.{◌≡◌, ◌==◌, ℕ, true, false, if◌then◌else◌, List, [], ◌∷◌}
-use Rattle.exo_tree.specs.Tree.{Condition, True, False, Flag, FieldFlag, Lt, Le, Gt, Ge, Eq, And, Or, Argument, ControlArg, ConditionArg, Whole, Window, Statement, Assign, Reduce, Config, Pass, If, For, Alloc, View, Call, Block, end, next}
+use Rattle.exo_tree.specs.Tree.{Condition, True, False, Flag, FieldFlag, Lt, Le, Gt, Ge, Eq, And}
+use Rattle.exo_tree.specs.Tree.{Or, Argument, ControlArg, ConditionArg, Whole, Window, Statement}
+use Rattle.exo_tree.specs.Tree.{Assign, Reduce, Config, Pass, If, For, Alloc, View, Call, Block}
+use Rattle.exo_tree.specs.Tree.{end, next}
 use Rattle.exo_meaning.specs.Scene.{is_set, holds}
 use Rattle.exo_meaning.specs.State.{State}
 use Rattle.exo_meaning.specs.Run.{World, run}
@@ -48,6 +51,13 @@ module _ (x : ℕ) (c : Condition) where
     in_block end = end
     in_block (next a b) = next (in_statement a) (in_block b)
 
--- where the flag is set exactly where the condition holds, and the block binds neither it nor a variable of the condition, the block runs the same with the condition for the flag
+-- where the flag is set exactly where the condition holds, and the block binds neither it nor a
+-- variable of the condition, the block runs the same with the condition for the flag
 abbrev pub FlagLaw : Type 0
-FlagLaw = (world : World) (x : ℕ) (c : Condition) (b : Block) (s : State) → is_plain_condition c ≡ true → has_binder b x ≡ false → ((y : ℕ) → condition_has c y ≡ true → has_binder b y ≡ false) → is_set (s.scene.control x) ≡ holds s.scene c → run world b s ≡ run world (in_block x c b) s
+FlagLaw =
+    (world : World) (x : ℕ) (c : Condition) (b : Block) (s : State)
+    → is_plain_condition c ≡ true
+    → has_binder b x ≡ false
+    → ((y : ℕ) → condition_has c y ≡ true → has_binder b y ≡ false)
+    → is_set (s.scene.control x) ≡ holds s.scene c
+    → run world b s ≡ run world (in_block x c b) s

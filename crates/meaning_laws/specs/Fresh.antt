@@ -31,4 +31,7 @@ pub record IsFresh (b : Block) (n : ℕ) (r : Renaming) : Type 0 where
 
 -- there is one, and at a place where these ids are free it moves free names only
 abbrev pub FreshCopyLaw : Type 0
-FreshCopyLaw = (p : Procedure) (c : Context) (b : Block) (n : ℕ) → AreFree (IsFree p c) (binders b) n → (r : Renaming) × IsFresh b n r × Moves r (IsFree p c)
+FreshCopyLaw =
+    (p : Procedure) (c : Context) (b : Block) (n : ℕ)
+    → AreFree (IsFree p c) (binders b) n
+    → (r : Renaming) × IsFresh b n r × Moves r (IsFree p c)

@@ -1,6 +1,7 @@
 -- A unit that grows at its end keeps the meaning of what it had.
 use Rattle.std.specs.Prelude.{◌≡◌, nat_lt, ℕ, Bool, true, ◌&&◌, List, ◌++◌, length}
-use Rattle.exo_tree.specs.Tree.{Kind, Statement, Assign, Reduce, Config, Pass, If, For, Alloc, View, Call, Block, end, next, Procedure}
+use Rattle.exo_tree.specs.Tree.{Kind, Statement, Assign, Reduce, Config, Pass, If, For, Alloc, View}
+use Rattle.exo_tree.specs.Tree.{Call, Block, end, next, Procedure}
 use Rattle.exo_meaning.specs.Run.{run, unit_world}
 use Rattle.exo_meaning.specs.Inputs.{Refines}
 
@@ -23,8 +24,16 @@ abbrev mutual
 
 -- a block that calls procedures of the shorter unit alone runs the same in the longer one
 abbrev pub GrownLaw : Type 0
-GrownLaw = (kinds : ℕ → Kind) (ps more : List Procedure) (b : Block) → calls_below (length ps) b ≡ true → run (unit_world kinds (ps ++ more)) b ≡ run (unit_world kinds ps) b
+GrownLaw =
+    (kinds : ℕ → Kind) (ps more : List Procedure) (b : Block)
+    → calls_below (length ps) b ≡ true
+    → run (unit_world kinds (ps ++ more)) b ≡ run (unit_world kinds ps) b
 
 -- so one procedure refines another in the longer unit where it does in the shorter one
 abbrev pub GrownRefinesLaw : Type 0
-GrownRefinesLaw = (kinds : ℕ → Kind) (ps more : List Procedure) (p q : Procedure) (but : List ℕ) → calls_below (length ps) p.body ≡ true → calls_below (length ps) q.body ≡ true → Refines (unit_world kinds ps) p q but → Refines (unit_world kinds (ps ++ more)) p q but
+GrownRefinesLaw =
+    (kinds : ℕ → Kind) (ps more : List Procedure) (p q : Procedure) (but : List ℕ)
+    → calls_below (length ps) p.body ≡ true
+    → calls_below (length ps) q.body ≡ true
+    → Refines (unit_world kinds ps) p q but
+    → Refines (unit_world kinds (ps ++ more)) p q but

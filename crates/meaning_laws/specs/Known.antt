@@ -1,6 +1,7 @@
 -- All that is known at a place, and what follows from it.
 use Rattle.std.specs.Prelude.{◌≡◌, ◌++◌, ℕ, pos, true, false, List, [], ◌∷◌}
-use Rattle.exo_tree.specs.Tree.{Kind, Size, Index, Truth, Stride, Lit, Var, Condition, Le, Block, Param, ParamKind, ControlParam, TensorParam, WindowParam, Procedure}
+use Rattle.exo_tree.specs.Tree.{Kind, Size, Index, Truth, Stride, Lit, Var, Condition, Le, Block}
+use Rattle.exo_tree.specs.Tree.{Param, ParamKind, ControlParam, TensorParam, WindowParam, Procedure}
 use Rattle.exo_meaning.specs.Scene.{Scene, holds}
 use Rattle.exo_meaning.specs.State.{State}
 use Rattle.exo_meaning.specs.Run.{World}
@@ -10,7 +11,8 @@ use Rattle.exo_tree.specs.Context.{Context}
 use Rattle.meaning_laws.specs.Context.{ComesTo}
 use Rattle.meaning_laws.specs.Sound.{on_way}
 use Rattle.meaning_laws.specs.Copies.{HoldsAt}
-use Rattle.meaning_laws.specs.Facts.{Fact, Holds, IsTrueAt, with_fact, is_plain_condition, facts, IsSteady, AreSteady}
+use Rattle.meaning_laws.specs.Facts.{Fact, Holds, IsTrueAt, with_fact, is_plain_condition, facts}
+use Rattle.meaning_laws.specs.Facts.{IsSteady, AreSteady}
 
 abbrev pub kind_facts : ℕ → Kind → List Fact
 kind_facts x Size = Holds (Le (Lit (pos 1)) (Var x)) ∷ []
@@ -42,11 +44,20 @@ pub record KeepsKnown (p : Procedure) (c : Context) : Type 0 where
   pub facts : AreSteady c
 
 abbrev pub KnownLaw : Type 0
-KnownLaw = (world : World) (p : Procedure) (old : Block) (c : Context) (s u : State) → KeepsKnown p c → IsAdmissible world p s → ComesTo world old c s u → Each (IsTrueAt u.scene) (known p c)
+KnownLaw =
+    (world : World) (p : Procedure) (old : Block) (c : Context) (s u : State)
+    → KeepsKnown p c
+    → IsAdmissible world p s
+    → ComesTo world old c s u
+    → Each (IsTrueAt u.scene) (known p c)
 
 -- a claim that follows from what is known holds there
 abbrev pub ShownLaw : Type 0
-ShownLaw = (world : World) (p : Procedure) (old : Block) (c : Context) (claim : Condition) → KeepsKnown p c → ((scene : Scene) → Each (IsTrueAt scene) (known p c) → holds scene claim ≡ true) → HoldsAt world p old c claim
+ShownLaw =
+    (world : World) (p : Procedure) (old : Block) (c : Context) (claim : Condition)
+    → KeepsKnown p c
+    → ((scene : Scene) → Each (IsTrueAt scene) (known p c) → holds scene claim ≡ true)
+    → HoldsAt world p old c claim
 
 -- ---- claims
 

@@ -14,7 +14,8 @@ LeavesFields world b = (s t : State) → run world b s ≡ Some t → t.scene.fi
 
 -- what the turn of both loops touches
 abbrev pub pair_touches : World → ℕ → ℕ → Block → ℤ × ℤ → State → List Entry
-pair_touches world i j b x s = footprint world no_entries b (on_scene (with_control j x.1) (on_scene (with_control i x.0) s))
+pair_touches world i j b x s =
+    footprint world no_entries b (on_scene (with_control j x.1) (on_scene (with_control i x.0) s))
 
 -- no access of the one clashes with one of the other
 abbrev pub AreClear : Scene → List Entry → List Entry → Type 0
@@ -22,4 +23,11 @@ AreClear scene xs ys = Each (IsClear scene ys) xs × Each (IsClear scene xs) ys
 
 -- two turns of both loops commute where their footprints do not clash
 abbrev pub PairsCommute : Type 0
-PairsCommute = (kinds : ℕ → Kind) (i j : ℕ) (b : Block) (u : State) (x y : ℤ × ℤ) → let world = without_calls kinds in LeavesFields world b → ((s : State) → IsAt u s → AreClear s.scene (pair_touches world i j b x s) (pair_touches world i j b y s)) → Exchange (IsAt u) (both_turns i j (run world b)) x y
+PairsCommute =
+    (kinds : ℕ → Kind) (i j : ℕ) (b : Block) (u : State) (x y : ℤ × ℤ)
+    → let world = without_calls kinds in
+    LeavesFields world b
+    → ((s : State)
+    → IsAt u s
+    → AreClear s.scene (pair_touches world i j b x s) (pair_touches world i j b y s))
+    → Exchange (IsAt u) (both_turns i j (run world b)) x y

@@ -1,7 +1,14 @@
 -- A control expression in the place of a control variable.
-use Rattle.std.specs.Prelude.{◌≡◌, ℕ, Bool, true, false, ◌==◌, ◌||◌, ◌&&◌, List, [], ◌∷◌, option_map}
-use Rattle.exo_tree.specs.Tree.{Control, Lit, Var, Field, StrideOf, Neg, Add, Sub, Mul, Div, Mod, Condition, True, False, Flag, FieldFlag, Lt, Le, Gt, Ge, Eq, And, Or, Argument, ControlArg, ConditionArg, Whole, Window, Statement, Assign, Reduce, Config, Pass, If, For, Alloc, View, Call, Block, end, next}
-pub use Rattle.exo_tree.specs.Substitution.{in_control, in_controls, in_condition, in_datum, in_coord, in_coords, in_argument, in_arguments, in_statement, in_block}
+use Rattle.std.specs.Prelude.{◌≡◌, ℕ, Bool, true, false, ◌==◌, ◌||◌, ◌&&◌, List, [], ◌∷◌}
+use Rattle.std.specs.Prelude.{option_map}
+use Rattle.exo_tree.specs.Tree.{Control, Lit, Var, Field, StrideOf, Neg, Add, Sub, Mul, Div, Mod}
+use Rattle.exo_tree.specs.Tree.{Condition, True, False, Flag, FieldFlag, Lt, Le, Gt, Ge, Eq, And}
+use Rattle.exo_tree.specs.Tree.{Or, Argument, ControlArg, ConditionArg, Whole, Window, Statement}
+use Rattle.exo_tree.specs.Tree.{Assign, Reduce, Config, Pass, If, For, Alloc, View, Call, Block}
+use Rattle.exo_tree.specs.Tree.{end, next}
+pub use Rattle.exo_tree.specs.Substitution.{in_control, in_controls, in_condition, in_datum}
+pub use Rattle.exo_tree.specs.Substitution.{in_coord, in_coords, in_argument, in_arguments}
+pub use Rattle.exo_tree.specs.Substitution.{in_statement, in_block}
 use Rattle.exo_meaning.specs.Scene.{number}
 use Rattle.exo_meaning.specs.State.{State, on_scene, with_control}
 use Rattle.exo_meaning.specs.Run.{World, run}

@@ -1,10 +1,18 @@
 -- The rules on memories, and the first one in the order of the text that a procedure breaks.
-use Rattle.std.specs.Prelude.{ℕ, ◌==◌, ◌-◌, pos, Bool, true, false, not, ◌&&◌, List, [], ◌∷◌, length, Option, Some, None, slice_get}
+use Rattle.std.specs.Prelude.{ℕ, ◌==◌, ◌-◌, pos, Bool, true, false, not, ◌&&◌, List, [], ◌∷◌}
+use Rattle.std.specs.Prelude.{length, Option, Some, None, slice_get}
 use Rattle.std.specs.Ordering.{int_eq}
-use Rattle.exo_tree.specs.Tree.{Cell, Control, Lit, Var, Field, StrideOf, Neg, Add, Sub, Mul, Div, Mod, Datum, Const, Read, Negated, Relu, Plus, Minus, Times, Select, Coord, At, Span, Argument, ControlArg, ConditionArg, Whole, Window, Statement, Assign, Reduce, Config, Pass, If, For, Alloc, View, Call, Block, end, next, Param, ParamKind, Procedure, MemoryKind, Program}
+use Rattle.exo_tree.specs.Tree.{Cell, Control, Lit, Var, Field, StrideOf, Neg, Add, Sub, Mul, Div}
+use Rattle.exo_tree.specs.Tree.{Mod, Datum, Const, Read, Negated, Relu, Plus, Minus, Times, Select}
+use Rattle.exo_tree.specs.Tree.{Coord, At, Span, Argument, ControlArg, ConditionArg, Whole, Window}
+use Rattle.exo_tree.specs.Tree.{Statement, Assign, Reduce, Config, Pass, If, For, Alloc, View, Call}
+use Rattle.exo_tree.specs.Tree.{Block, end, next, Param, ParamKind, Procedure, MemoryKind, Program}
 use Rattle.exo_meaning.specs.Units.{same_cell}
 use Rattle.memory_kinds.specs.declared.error.KindError.{KindError}
-use Rattle.memory_kinds.specs.declared.error.KindError.TheVariants.{NotReadable, NotWritable, NotReducible, MemoryMismatch, PrecisionMismatch, LaneMismatch, NotLiteral}
+use Rattle.memory_kinds.specs.declared.error.KindError.TheVariants.{NotReadable, NotWritable}
+use Rattle.memory_kinds.specs.declared.error.KindError.TheVariants.{NotReducible, MemoryMismatch}
+use Rattle.memory_kinds.specs.declared.error.KindError.TheVariants.{PrecisionMismatch, LaneMismatch}
+use Rattle.memory_kinds.specs.declared.error.KindError.TheVariants.{NotLiteral}
 use Rattle.memory_kinds.specs.Homes.{Homes, memory_of_kind, param_homes, homes_after}
 
 abbrev pub fault_where : Bool → KindError → Option KindError
@@ -134,7 +142,8 @@ module _ (memories : List MemoryKind) where
       or_first (argument_fault home p a) (arguments_fault home ps rest)
 
   abbrev pub kind_fault : ParamKind → Option KindError
-  kind_fault kind = elim (memory_of_kind kind) [ None ↦ None | Some memory ↦ in_memory memory param_fault ]
+  kind_fault kind =
+      elim (memory_of_kind kind) [ None ↦ None | Some memory ↦ in_memory memory param_fault ]
 
   abbrev pub params_fault : List Param → Option KindError
   params_fault [] = None
@@ -169,7 +178,8 @@ module _ (procedures : List Procedure) (memories : List MemoryKind) where
     step_fault home (Call k args) = call_fault home k args
 
   abbrev pub procedure_fault : Procedure → Option KindError
-  procedure_fault p = or_first (params_fault memories p.params) (block_fault (param_homes p.params) p.body)
+  procedure_fault p =
+      or_first (params_fault memories p.params) (block_fault (param_homes p.params) p.body)
 
 -- the first rule that the procedure of that number breaks; None where there is no such procedure
 abbrev pub fault_of : Program → ℕ → Option KindError

@@ -1,6 +1,7 @@
 -- The memory that each name in scope stands in.
 use Rattle.std.specs.Prelude.{ℕ, Bool, true, false, List, [], ◌∷◌, Option, Some, None}
-use Rattle.exo_tree.specs.Tree.{Statement, Assign, Reduce, Config, Pass, If, For, Alloc, View, Call, ParamKind, ControlParam, TensorParam, WindowParam, Param}
+use Rattle.exo_tree.specs.Tree.{Statement, Assign, Reduce, Config, Pass, If, For, Alloc, View, Call}
+use Rattle.exo_tree.specs.Tree.{ParamKind, ControlParam, TensorParam, WindowParam, Param}
 use Rattle.exo_meaning.specs.Scene.{updated}
 
 -- by the name's id; that of no buffer counts as in the first memory, and no rule asks for it

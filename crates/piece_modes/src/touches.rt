@@ -11,7 +11,8 @@ ghost use Rattle.exo_meaning.specs.Run.{roots_after, is_root, call_writes};
 ghost use Rattle.exo_modes.specs.Aliases.{roots_in};
 ghost use Rattle.exo_modes.specs.Marks.{modes_of};
 ghost use Rattle.exo_modes.specs.Seen.{says, table_says};
-ghost use Rattle.piece_modes.specs.Touching.{call_touches, step_touches, block_touches, callee_modes};
+ghost use Rattle.piece_modes.specs.Touching.{call_touches, step_touches, block_touches};
+ghost use Rattle.piece_modes.specs.Touching.{callee_modes};
 ghost use Rattle.piece_modes.specs.PlainMode.{plain_mode};
 
 use exo_modes::{Alias, ModeTable, Modes, root, set_root};
@@ -46,7 +47,8 @@ impl Mode {
     }
 }
 
-/// What is asked: whether the buffer of an id is touched so, by the table of what each procedure of the unit touches.
+/// What is asked: whether the buffer of an id is touched so, by the table of what each procedure of
+/// the unit touches.
 #[derive(Clone, Copy)]
 pub(crate) struct Asked<'a> {
     pub(crate) unit: &'a Unit,
@@ -90,14 +92,21 @@ fn is_part(aliases: &[Alias], y: u32, a: &Arg) -> bool
 impl Asked<'_> {
     /// Whether a parameter of a procedure is touched so and an argument is part of the buffer.
     fn is_passed(&self, aliases: &[Alias], k: ProcId, p: &Param, a: &Arg) -> bool
-        ensures { result ≡ (callee_modes (program self.now.unit.now) k.0 (plain_mode self.now.mode) p.now.binder.id.0 && is_root (roots_in aliases.now) self.now.buffer (argument a.now)) }
+        ensures { result ≡ (callee_modes (program self.now.unit.now) k.0 (plain_mode self.now.mode)
+            p.now.binder.id.0
+            && is_root (roots_in aliases.now) self.now.buffer (argument a.now)) }
     {
         self.mode.is_among(self.modes.get(k, p.binder.id)) && is_part(aliases, self.buffer, a)
     }
 
-    /// Whether one of the arguments of a call is part of the buffer where its parameter is touched so.
+    /// Whether one of the arguments of a call is part of the buffer where its parameter is touched
+    /// so.
     fn are_passed(&self, aliases: &[Alias], k: ProcId, params: &[Param], args: &[Arg]) -> bool
-        ensures { result ≡ call_writes (callee_modes (program self.now.unit.now) k.0 (plain_mode self.now.mode)) (roots_in aliases.now) self.now.buffer (map parameter params.now) (map argument args.now) }
+        ensures { result ≡ call_writes
+            (callee_modes (program self.now.unit.now) k.0 (plain_mode self.now.mode))
+            (roots_in aliases.now) self.now.buffer
+            (map parameter params.now)
+            (map argument args.now) }
     {
         match (params.split_first(), args.split_first()) {
             (Some((p, more)), Some((a, rest))) => {
@@ -109,7 +118,8 @@ impl Asked<'_> {
 
     /// Whether a call touches the buffer so.
     fn call_touches(&self, aliases: &[Alias], k: ProcId, args: &Args) -> bool
-        ensures { result ≡ call_touches (program self.now.unit.now) (plain_mode self.now.mode) (roots_in aliases.now) k.0 args.now self.now.buffer }
+        ensures { result ≡ call_touches (program self.now.unit.now) (plain_mode self.now.mode)
+            (roots_in aliases.now) k.0 args.now self.now.buffer }
     {
         match self.unit.procs.get(k.0 as usize) {
             Some(p) => self.are_passed(aliases, k, p.params.as_slice(), args.as_slice()),
@@ -120,9 +130,13 @@ impl Asked<'_> {
     /// Whether a statement touches the buffer so; adds the name that it binds.
     #[cycle(walk)]
     fn statement_touches(&self, aliases: &mut Vec<Alias>, s: &Stmt) -> Result<bool, AllocError>
-        ensures touches { IfOk result (λ r. r ≡ step_touches (program self.now.unit.now) (plain_mode self.now.mode) (roots_in aliases.old.items) (statement s.now) self.now.buffer) }
-        ensures roots { OnOk result (roots_in aliases.new.items ≡ roots_after (statement s.now) (roots_in aliases.old.items)) }
-        ensures kept { OnOk result (take (length aliases.old.items) aliases.new.items ≡ aliases.old.items) }
+        ensures touches { IfOk result (λ r.
+            r ≡ step_touches (program self.now.unit.now) (plain_mode self.now.mode)
+            (roots_in aliases.old.items) (statement s.now) self.now.buffer) }
+        ensures roots { OnOk result (roots_in aliases.new.items
+            ≡ roots_after (statement s.now) (roots_in aliases.old.items)) }
+        ensures kept { OnOk result
+            (take (length aliases.old.items) aliases.new.items ≡ aliases.old.items) }
     {
         let y = self.buffer;
         match s {
@@ -161,7 +175,9 @@ impl Asked<'_> {
         aliases: &mut Vec<Alias>,
         b: &Block,
     ) -> Result<bool, AllocError>
-        ensures touches { IfOk result (λ r. r ≡ block_touches (program self.now.unit.now) (plain_mode self.now.mode) (roots_in aliases.old.items) (block b.now) self.now.buffer) }
+        ensures touches { IfOk result (λ r.
+            r ≡ block_touches (program self.now.unit.now) (plain_mode self.now.mode)
+            (roots_in aliases.old.items) (block b.now) self.now.buffer) }
         ensures kept { OnOk result (aliases.new.items ≡ aliases.old.items) }
     {
         let known = aliases.len();

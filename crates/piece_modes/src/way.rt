@@ -26,7 +26,8 @@ pub(crate) struct Way {
 
 /// The ids of parameters.
 fn ids_of(alloc: Global, params: &[Param]) -> Result<Vec<u32>, AllocError>
-    ensures { IfOk result (λ v. v.items ≡ map (λ (q : tree.Param). q.binder.id) (map parameter params.now)) }
+    ensures { IfOk result
+        (λ v. v.items ≡ map (λ (q : tree.Param). q.binder.id) (map parameter params.now)) }
 {
     let mut ids = Vec::new(alloc);
     for p in params {
@@ -47,7 +48,8 @@ impl Way {
 
     /// Past a statement.
     fn pass(&mut self, s: &Stmt) -> Result<(), AllocError>
-        ensures { OnOk result (plain_way self.new ≡ plain.passed (statement s.now) (plain_way self.old)) }
+        ensures { OnOk result
+            (plain_way self.new ≡ plain.passed (statement s.now) (plain_way self.old)) }
     {
         match s {
             Stmt::Alloc(x, _, _, _) => {
@@ -67,7 +69,8 @@ impl Way {
 
     /// Into a block of a statement.
     fn enter(&mut self, s: &Stmt) -> Result<(), AllocError>
-        ensures { OnOk result (plain_way self.new ≡ plain.entered (statement s.now) (plain_way self.old)) }
+        ensures { OnOk result
+            (plain_way self.new ≡ plain.entered (statement s.now) (plain_way self.old)) }
     {
         match s {
             Stmt::For(i, _, _, _) => {
@@ -81,7 +84,8 @@ impl Way {
     /// Past the first statements of a block.
     fn pass_first(&mut self, b: &Block, to: usize) -> Result<(), AllocError>
         requires { to ≤ length b.now }
-        ensures { OnOk result (plain_way self.new ≡ plain.passed_all (take to b.now) (plain_way self.old)) }
+        ensures { OnOk result
+            (plain_way self.new ≡ plain.passed_all (take to b.now) (plain_way self.old)) }
     {
         for k in 0..to {
             self.pass(b.statement(k))?;
@@ -91,7 +95,10 @@ impl Way {
 
     /// To so many statements of a block; false exactly where they are not there.
     fn arrive(&mut self, b: &Block, step: Step, count: usize) -> Result<bool, AllocError>
-        ensures { IfOk result (λ there. LeadsTo (opened_in count (step_taken step ∷ []) (block b.now)) there (plain_way self.old) (plain_way self.new)) }
+        ensures { IfOk result (λ there.
+            LeadsTo (opened_in count (step_taken step ∷ []) (block b.now)) there
+            (plain_way self.old)
+            (plain_way self.new)) }
     {
         let from = step.index as usize;
         if from > b.len() || count > b.len() - from {
@@ -110,7 +117,10 @@ impl Way {
         rest: &[Step],
         count: usize,
     ) -> Result<bool, AllocError>
-        ensures { IfOk result (λ there. LeadsTo (opened_in count (step_taken step ∷ map step_taken rest.now) (block b.now)) there (plain_way self.old) (plain_way self.new)) }
+        ensures { IfOk result (λ there. LeadsTo
+            (opened_in count (step_taken step ∷ map step_taken rest.now) (block b.now)) there
+            (plain_way self.old)
+            (plain_way self.new)) }
     {
         let Some((next, more)) = rest.split_first() else {
             return self.arrive(b, step, count);
@@ -129,7 +139,8 @@ impl Way {
 
     /// To so many statements of a body from a path on; false exactly where they are not there.
     fn find(&mut self, body: &Block, path: &Path, count: usize) -> Result<bool, AllocError>
-        ensures { IfOk result (λ there. LeadsTo (opened count path.now (block body.now)) there (plain_way self.old) (plain_way self.new)) }
+        ensures { IfOk result (λ there. LeadsTo (opened count path.now (block body.now)) there
+            (plain_way self.old) (plain_way self.new)) }
     {
         let Some((step, rest)) = path.as_slice().split_first() else {
             return Ok(false);
@@ -140,7 +151,8 @@ impl Way {
         }
     }
 
-    /// The way to so many statements of a procedure from a path on; where they are not there, that to the start of its body.
+    /// The way to so many statements of a procedure from a path on; where they are not there, that
+    /// to the start of its body.
     pub(crate) fn to(alloc: Global, p: &Proc, path: &Path, count: u32) -> Result<Way, AllocError>
         ensures { IfOk result (λ w. plain_way w ≡ plain.way_to count path.now (procedure p.now)) }
     {

@@ -4,7 +4,8 @@ use Rattle.exo_tree.specs.Tree.{ConfigField}
 use Rattle.text_lexer.specs.declared.token.Literal.TheVariants.{Value}
 use Rattle.text_expressions.specs.declared.source.Operator.{Operator}
 use Rattle.text_expressions.specs.declared.source.Operator.TheVariants as o
-use Rattle.text_expressions.specs.Expression.{Tree, number, truth, variable, field, stride, negative, parens, binary}
+use Rattle.text_expressions.specs.Expression.{Tree, number, truth, variable, field, stride}
+use Rattle.text_expressions.specs.Expression.{negative, parens, binary}
 use Rattle.exo_reader.specs.Source.{Coordinate, point, span}
 use Rattle.rules_names.specs.declared.argument.ArgError.{ArgError}
 use Rattle.rules_names.specs.declared.argument.ArgError.TheVariants.{Memory, NotOfForm, UnknownName}
@@ -15,7 +16,8 @@ abbrev pub is_count : Tree → Bool
 is_count (number (Value n)) = nat_lt 0 n
 is_count other = false
 
--- two sides of an operator between control values: those of a sum or a product, or one that a literal divides
+-- two sides of an operator between control values: those of a sum or a product, or one that a
+-- literal divides
 abbrev pub sides_form : Operator → Bool → Bool → Bool → Bool
 sides_form o.Add l r counts = l && r
 sides_form o.Sub l r counts = l && r
@@ -24,7 +26,8 @@ sides_form o.Div l r counts = l && counts
 sides_form o.Mod l r counts = l && counts
 sides_form other l r counts = false
 
--- of literals, names, fields, strides, sums, products, and quotients by a literal; products need no literal side
+-- of literals, names, fields, strides, sums, products, and quotients by a literal; products need no
+-- literal side
 abbrev pub is_control_form : Tree → Bool
 is_control_form (number n) = true
 is_control_form (variable x) = true
@@ -32,7 +35,8 @@ is_control_form (field c x) = true
 is_control_form (stride x k) = true
 is_control_form (negative e) = is_control_form e
 is_control_form (parens e) = is_control_form e
-is_control_form (binary operator l r) = sides_form operator (is_control_form l) (is_control_form r) (is_count r)
+is_control_form (binary operator l r) =
+    sides_form operator (is_control_form l) (is_control_form r) (is_count r)
 is_control_form other = false
 
 -- two sides of an operator between conditions, or of a comparison
@@ -52,7 +56,9 @@ is_condition_form (truth b) = true
 is_condition_form (variable x) = true
 is_condition_form (field c x) = true
 is_condition_form (parens e) = is_condition_form e
-is_condition_form (binary operator l r) = condition_sides operator (is_condition_form l && is_condition_form r) (is_control_form l && is_control_form r)
+is_condition_form (binary operator l r) =
+    condition_sides operator (is_condition_form l && is_condition_form r)
+    (is_control_form l && is_control_form r)
 is_condition_form other = false
 
 -- each field that is named is one of these

@@ -1,15 +1,23 @@
--- The rules on expressions. An expression whose outermost form cannot be of the kind that its place asks is charged at its first
--- token, whatever stands inside; else its parts are tested, and then the whole. Parentheses are looked through for the form, and
--- a name or a field of a wrong kind in parentheses is charged at the outermost one.
-use Rattle.std.specs.Prelude.{ℕ, suc, ◌+◌, ◌==◌, nat_lt, Bool, true, false, not, ◌&&◌, ◌||◌, if◌then◌else◌, List, [], ◌∷◌, ◌++◌, length, Option, Some, None}
+-- The rules on expressions. An expression whose outermost form cannot be of the kind that its place
+-- asks is charged at its first token, whatever stands inside; else its parts are tested, and then
+-- the whole. Parentheses are looked through for the form, and a name or a field of a wrong kind in
+-- parentheses is charged at the outermost one.
+use Rattle.std.specs.Prelude.{ℕ, suc, ◌+◌, ◌==◌, nat_lt, Bool, true, false, not, ◌&&◌, ◌||◌}
+use Rattle.std.specs.Prelude.{if◌then◌else◌, List, [], ◌∷◌, ◌++◌, length, Option, Some, None}
 use Rattle.exo_tree.specs.Tree.{Kind, ConfigField}
-use Rattle.exo_meaning.specs.Units.{Sort, ControlName, BufferName, Scope, Reads, plainly, is_truth, is_number, is_flag}
+use Rattle.exo_meaning.specs.Units.{Sort, ControlName, BufferName, Scope, Reads, plainly, is_truth}
+use Rattle.exo_meaning.specs.Units.{is_number, is_flag}
 use Rattle.text_lexer.specs.declared.token.Literal.{Literal}
 use Rattle.text_lexer.specs.declared.token.Literal.TheVariants.{Value, TooLarge}
 use Rattle.text_expressions.specs.declared.source.Operator.{Operator}
-use Rattle.text_expressions.specs.declared.source.Operator.TheVariants.{Or, And, Lt, Le, Gt, Ge, Eq, Add, Sub, Mul, Div, Mod}
-use Rattle.text_expressions.specs.Expression.{Tree, Trees, number, truth, variable, access, field, stride, relu, select, negative, parens, binary, end, next, spelling}
-use Rattle.rules_names.specs.declared.error.TypeKind.TheVariants.{UnknownName, KindMismatch, RankMismatch, NotAffine, ConfigPlace, StridePlace}
+use Rattle.text_expressions.specs.declared.source.Operator.TheVariants.{Or, And, Lt, Le, Gt, Ge, Eq}
+use Rattle.text_expressions.specs.declared.source.Operator.TheVariants.{Add, Sub, Mul, Div, Mod}
+use Rattle.text_expressions.specs.Expression.{Tree, Trees, number, truth, variable, access, field}
+use Rattle.text_expressions.specs.Expression.{stride, relu, select, negative, parens, binary, end}
+use Rattle.text_expressions.specs.Expression.{next, spelling}
+use Rattle.rules_names.specs.declared.error.TypeKind.TheVariants.{UnknownName, KindMismatch}
+use Rattle.rules_names.specs.declared.error.TypeKind.TheVariants.{RankMismatch, NotAffine}
+use Rattle.rules_names.specs.declared.error.TypeKind.TheVariants.{ConfigPlace, StridePlace}
 use Rattle.rules_names.specs.declared.fault.Fault.{Fault}
 use Rattle.rules_names.specs.Faults.{fault, unless, parts_then_whole}
 use Rattle.rules_names.specs.Names.{named_in, sort_of, field_in}
@@ -63,7 +71,8 @@ has_variables (access x is) = true
 has_variables (field c x) = true
 has_variables (stride x k) = true
 has_variables (relu e) = has_variables e
-has_variables (select a b c d) = has_variables a || has_variables b || has_variables c || has_variables d
+has_variables (select a b c d) =
+    has_variables a || has_variables b || has_variables c || has_variables d
 has_variables (negative e) = has_variables e
 has_variables (parens e) = has_variables e
 has_variables (binary operator l r) = has_variables l || has_variables r
@@ -111,7 +120,8 @@ dimension_faults (Some (BufferName cell rank dense)) k n = unless (is_below k ra
 abbrev pub field_faults : Bool → Bool → Option (ℕ × Kind) → ℕ → List Fault
 field_faults wants_truth may None n = fault UnknownName n
 field_faults true may (Some f) n = unless (is_truth f.1) KindMismatch n ++ unless may ConfigPlace n
-field_faults false may (Some f) n = unless (not (is_truth f.1)) KindMismatch n ++ unless may ConfigPlace n
+field_faults false may (Some f) n =
+    unless (not (is_truth f.1)) KindMismatch n ++ unless may ConfigPlace n
 
 -- a field that there is none of, or one of the kind that is asked
 abbrev pub field_suits : Bool → Option (ℕ × Kind) → Bool
@@ -124,8 +134,8 @@ abbrev pub list_of : Trees → List Tree
 list_of end = []
 list_of (next e more) = e ∷ list_of more
 
--- A product has one side without variables, and what divides is a literal. Told are whether both sides have variables, and whether
--- the right one is such a literal; right is its first token.
+-- A product has one side without variables, and what divides is a literal. Told are whether both
+-- sides have variables, and whether the right one is such a literal; right is its first token.
 abbrev pub affine_faults : Operator → ℕ → ℕ → Bool → Bool → List Fault
 affine_faults Mul n right vary divides = unless (not vary) NotAffine n
 affine_faults Div n right vary divides = unless divides NotAffine right
@@ -154,13 +164,15 @@ module _ (fields : List ConfigField) where
   unknown_first scope n (parens e) = []
   unknown_first scope n (binary operator l r) = unknown_first scope n l
 
-  -- an expression whose form cannot be of the kind that is asked, whatever stands inside; its first token may be an unknown name too
+  -- an expression whose form cannot be of the kind that is asked, whatever stands inside; its first
+  -- token may be an unknown name too
   abbrev pub wrong_form : Scope → ℕ → Tree → List Fault
   wrong_form scope n e = unknown_first scope n e ++ fault KindMismatch n
 
   -- ---- what may stand in parentheses
 
-  -- An expression can be a control value by its form, and a name or a field alone by what it stands for.
+  -- An expression can be a control value by its form, and a name or a field alone by what it stands
+  -- for.
   abbrev pub may_be_control : Scope → Tree → Bool
   may_be_control scope (number n) = true
   may_be_control scope (truth b) = false
@@ -213,21 +225,27 @@ module _ (fields : List ConfigField) where
   control_faults may scope n (field c x) = field_faults false may.fields (field_in fields c x) n
   control_faults may scope n (stride x k) =
       let sort = sort_of (named_in scope x) in
-      parts_then_whole (name_faults is_buffer sort (n + 2)) (dimension_faults sort k (n + 4) ++ unless may.strides StridePlace n)
+      parts_then_whole (name_faults is_buffer sort (n + 2))
+      (dimension_faults sort k (n + 4) ++ unless may.strides StridePlace n)
   control_faults may scope n (relu e) = wrong_form scope n (relu e)
   control_faults may scope n (select a b c d) = wrong_form scope n (select a b c d)
   control_faults may scope n (negative e) = control_faults may scope (n + 1) e
-  control_faults may scope n (parens e) = if may_be_control scope e then control_faults may scope (n + 1) e else wrong_form scope n (parens e)
+  control_faults may scope n (parens e) =
+      if may_be_control scope e
+      then control_faults may scope (n + 1) e
+      else wrong_form scope n (parens e)
   control_faults may scope n (binary operator l r) =
       let right = n + width l + 1 in
       if is_arithmetic operator
-      then parts_then_whole (control_faults may scope n l ++ control_faults may scope right r) (affine_faults operator n right (has_variables l && has_variables r) (is_divisor r))
+      then parts_then_whole (control_faults may scope n l ++ control_faults may scope right r)
+      (affine_faults operator n right (has_variables l && has_variables r) (is_divisor r))
       else wrong_form scope n (binary operator l r)
 
   -- each where a control value is asked, with a token between two
   abbrev pub controls_faults : Reads → Scope → ℕ → List Tree → List Fault
   controls_faults may scope n [] = []
-  controls_faults may scope n (e ∷ es) = control_faults may scope n e ++ controls_faults may scope (n + width e + 1) es
+  controls_faults may scope n (e ∷ es) =
+      control_faults may scope n e ++ controls_faults may scope (n + width e + 1) es
 
   -- where a condition is asked: the sides of a comparison are control values
   abbrev pub condition_faults : Reads → Scope → ℕ → Tree → List Fault
@@ -240,7 +258,10 @@ module _ (fields : List ConfigField) where
   condition_faults may scope n (relu e) = wrong_form scope n (relu e)
   condition_faults may scope n (select a b c d) = wrong_form scope n (select a b c d)
   condition_faults may scope n (negative e) = wrong_form scope n (negative e)
-  condition_faults may scope n (parens e) = if may_be_condition scope e then condition_faults may scope (n + 1) e else wrong_form scope n (parens e)
+  condition_faults may scope n (parens e) =
+      if may_be_condition scope e
+      then condition_faults may scope (n + 1) e
+      else wrong_form scope n (parens e)
   condition_faults may scope n (binary operator l r) =
       let right = n + width l + 1 in
       if is_arithmetic operator then wrong_form scope n (binary operator l r)
@@ -252,7 +273,8 @@ module _ (fields : List ConfigField) where
   abbrev pub read_faults : Scope → ℕ → List ℕ → List Tree → List Fault
   read_faults scope n x is =
       let sort = sort_of (named_in scope x) in
-      parts_then_whole (name_faults is_buffer sort n ++ controls_faults plainly scope (n + 2) is) (rank_faults sort (length is) n)
+      parts_then_whole (name_faults is_buffer sort n ++ controls_faults plainly scope (n + 2) is)
+      (rank_faults sort (length is) n)
 
   -- where a value of cells is asked
   abbrev pub data_faults : Scope → ℕ → Tree → List Fault
@@ -268,9 +290,11 @@ module _ (fields : List ConfigField) where
       let second = first + width a + 1 in
       let third = second + width b + 1 in
       let fourth = third + width c + 1 in
-      data_faults scope first a ++ (data_faults scope second b ++ (data_faults scope third c ++ data_faults scope fourth d))
+      data_faults scope first a
+      ++ (data_faults scope second b ++ (data_faults scope third c ++ data_faults scope fourth d))
   data_faults scope n (negative e) = data_faults scope (n + 1) e
-  data_faults scope n (parens e) = if may_be_data scope e then data_faults scope (n + 1) e else wrong_form scope n (parens e)
+  data_faults scope n (parens e) =
+      if may_be_data scope e then data_faults scope (n + 1) e else wrong_form scope n (parens e)
   data_faults scope n (binary operator l r) =
       if is_arithmetic operator && not (is_quotient operator)
       then data_faults scope n l ++ data_faults scope (n + width l + 1) r

@@ -1,9 +1,15 @@
--- Broken rules: which rule, and at which token. Of all rules that a statement breaks, the one at the earliest token is named;
--- where several are broken at one token, the one that stands first in the list of rules.
-use Rattle.std.specs.Prelude.{ℕ, ◌==◌, nat_lt, Bool, true, false, ◌&&◌, ◌||◌, if◌then◌else◌, List, [], ◌∷◌, ◌++◌, Option, Some, None}
+-- Broken rules: which rule, and at which token. Of all rules that a statement breaks, the one at
+-- the earliest token is named; where several are broken at one token, the one that stands first in
+-- the list of rules.
+use Rattle.std.specs.Prelude.{ℕ, ◌==◌, nat_lt, Bool, true, false, ◌&&◌, ◌||◌, if◌then◌else◌, List}
+use Rattle.std.specs.Prelude.{[], ◌∷◌, ◌++◌, Option, Some, None}
 use Rattle.std.specs.List.{list_any}
 use Rattle.rules_names.specs.declared.error.TypeKind.{TypeKind}
-use Rattle.rules_names.specs.declared.error.TypeKind.TheVariants.{UnknownName, Redefined, KindMismatch, RankMismatch, NotAffine, ConfigPlace, StridePlace, SharedArgument, Memory}
+use Rattle.rules_names.specs.declared.error.TypeKind.TheVariants.{UnknownName, Redefined}
+use Rattle.rules_names.specs.declared.error.TypeKind.TheVariants.{KindMismatch, RankMismatch}
+use Rattle.rules_names.specs.declared.error.TypeKind.TheVariants.{NotAffine, ConfigPlace}
+use Rattle.rules_names.specs.declared.error.TypeKind.TheVariants.{StridePlace, SharedArgument}
+use Rattle.rules_names.specs.declared.error.TypeKind.TheVariants.{Memory}
 use Rattle.rules_names.specs.declared.fault.Fault.{Fault}
 use Rattle.rules_names.specs.declared.fault.Charge.{Charge}
 
@@ -28,7 +34,8 @@ rank_of SharedArgument = 7
 rank_of Memory = 8
 
 abbrev pub is_before : Fault → Fault → Bool
-is_before a b = nat_lt a.token b.token || ((a.token == b.token) && nat_lt (rank_of a.rule) (rank_of b.rule))
+is_before a b =
+    nat_lt a.token b.token || ((a.token == b.token) && nat_lt (rank_of a.rule) (rank_of b.rule))
 
 -- the earlier of two; the first where neither is
 abbrev pub earlier : Option Fault → Option Fault → Option Fault
@@ -46,7 +53,8 @@ abbrev pub or_else : Option Fault → Option Fault → Option Fault
 or_else None b = b
 or_else (Some a) b = Some a
 
--- an unknown name or another kind than is asked: what such parts make up is charged with no further rule
+-- an unknown name or another kind than is asked: what such parts make up is charged with no further
+-- rule
 abbrev pub hides : TypeKind → Bool
 hides UnknownName = true
 hides Redefined = false
@@ -65,6 +73,7 @@ any_hides faults = list_any (λ f. hides f.rule) faults
 abbrev pub parts_then_whole : List Fault → List Fault → List Fault
 parts_then_whole parts whole = parts ++ (if any_hides parts then [] else whole)
 
--- what is told of the faults of an expression: the first of them, and whether one of them hides those of what it is a part of
+-- what is told of the faults of an expression: the first of them, and whether one of them hides
+-- those of what it is a part of
 unfoldable pub charged : List Fault → Charge
 charged faults = record { first = least faults; hides = any_hides faults }

@@ -1,6 +1,8 @@
--- Source trees with their names resolved: what an expression of a text is as a tree of a procedure. Parentheses are gone.
--- What the rules on expressions refuse stands for some tree here, which nobody sees.
-use Rattle.std.specs.Prelude.{ℕ, pos, Bool, true, false, if◌then◌else◌, List, [], map, Option, Some, None}
+-- Source trees with their names resolved: what an expression of a text is as a tree of a procedure.
+-- Parentheses are gone. What the rules on expressions refuse stands for some tree here, which
+-- nobody sees.
+use Rattle.std.specs.Prelude.{ℕ, pos, Bool, true, false, if◌then◌else◌, List, [], map, Option, Some}
+use Rattle.std.specs.Prelude.{None}
 use Rattle.exo_tree.specs.Tree as tree
 use Rattle.exo_tree.specs.Tree.{Kind, ConfigField, Control, Condition, Datum}
 use Rattle.exo_meaning.specs.Units.{Scope}
@@ -8,7 +10,8 @@ use Rattle.text_lexer.specs.declared.token.Literal.{Literal}
 use Rattle.text_lexer.specs.declared.token.Literal.TheVariants.{Value, TooLarge}
 use Rattle.text_expressions.specs.declared.source.Operator.{Operator}
 use Rattle.text_expressions.specs.declared.source.Operator.TheVariants as o
-use Rattle.text_expressions.specs.Expression.{Tree, number, truth, variable, access, field, stride, relu, select, negative, parens, binary}
+use Rattle.text_expressions.specs.Expression.{Tree, number, truth, variable, access, field, stride}
+use Rattle.text_expressions.specs.Expression.{relu, select, negative, parens, binary}
 use Rattle.rules_names.specs.Names.{id_in, field_in, no_id}
 use Rattle.rules_names.specs.ExpressionRules.{joins_conditions, list_of}
 
@@ -65,7 +68,8 @@ module _ (fields : List ConfigField) where
   control_of scope (stride x k) = tree.StrideOf (id_in scope x) (number_of k)
   control_of scope (negative e) = tree.Neg (control_of scope e)
   control_of scope (parens e) = control_of scope e
-  control_of scope (binary operator l r) = joined operator (control_of scope l) (control_of scope r) (divisor_of r)
+  control_of scope (binary operator l r) =
+      joined operator (control_of scope l) (control_of scope r) (divisor_of r)
   control_of scope other = tree.Lit (pos 0)
 
   abbrev pub condition_of : Scope → Tree → Condition
@@ -74,7 +78,9 @@ module _ (fields : List ConfigField) where
   condition_of scope (field c x) = tree.FieldFlag (field_number (field_in fields c x))
   condition_of scope (parens e) = condition_of scope e
   condition_of scope (binary operator l r) =
-      if joins_conditions operator then joined_conditions operator (condition_of scope l) (condition_of scope r) else compared operator (control_of scope l) (control_of scope r)
+      if joins_conditions operator
+      then joined_conditions operator (condition_of scope l) (condition_of scope r)
+      else compared operator (control_of scope l) (control_of scope r)
   condition_of scope other = tree.False
 
   abbrev pub controls_of : Scope → List Tree → List Control
@@ -85,7 +91,8 @@ module _ (fields : List ConfigField) where
   datum_of scope (variable x) = tree.Read (id_in scope x) []
   datum_of scope (access x is) = tree.Read (id_in scope x) (controls_of scope (list_of is))
   datum_of scope (relu e) = tree.Relu (datum_of scope e)
-  datum_of scope (select a b c d) = tree.Select (datum_of scope a) (datum_of scope b) (datum_of scope c) (datum_of scope d)
+  datum_of scope (select a b c d) =
+      tree.Select (datum_of scope a) (datum_of scope b) (datum_of scope c) (datum_of scope d)
   datum_of scope (negative e) = tree.Negated (datum_of scope e)
   datum_of scope (parens e) = datum_of scope e
   datum_of scope (binary operator l r) = joined_data operator (datum_of scope l) (datum_of scope r)

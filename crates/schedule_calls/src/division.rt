@@ -38,7 +38,8 @@ fn tail_named(name: &[u8]) -> Option<Tail>
 }
 
 fn tail_of(alloc: Global, value: &KeyValue) -> Result<Option<Tail>, AllocError>
-    ensures { IfOk result (λ t. option_map plain_tail t ≡ tail_of_value (plain_key_value value.now)) }
+    ensures { IfOk result
+        (λ t. option_map plain_tail t ≡ tail_of_value (plain_key_value value.now)) }
 {
     match value {
         KeyValue::Str(string) => {
@@ -69,7 +70,8 @@ impl TailKeys {
         name: &Text,
         value: &KeyValue,
     ) -> Result<Option<TailKeys>, AllocError>
-        ensures { IfOk result (λ k. option_map plain_keys k ≡ plain.with_key (plain_keys self) name.now (plain_key_value value.now)) }
+        ensures { IfOk result (λ k. option_map plain_keys k
+            ≡ plain.with_key (plain_keys self) name.now (plain_key_value value.now)) }
     {
         let text = name.as_slice();
         if text == b"tail".as_slice() {
@@ -82,7 +84,8 @@ impl TailKeys {
     }
 
     fn with_tail(self, alloc: Global, value: &KeyValue) -> Result<Option<TailKeys>, AllocError>
-        ensures { IfOk result (λ k. option_map plain_keys k ≡ plain.with_tail (plain_keys self) (plain_key_value value.now)) }
+        ensures { IfOk result (λ k. option_map plain_keys k
+            ≡ plain.with_tail (plain_keys self) (plain_key_value value.now)) }
     {
         if self.tail.is_some() {
             return Ok(None);
@@ -97,7 +100,8 @@ impl TailKeys {
     }
 
     fn with_perfect(self, value: &KeyValue) -> Option<TailKeys>
-        ensures { option_map plain_keys result ≡ plain.with_perfect (plain_keys self) (plain_key_value value.now) }
+        ensures { option_map plain_keys result
+            ≡ plain.with_perfect (plain_keys self) (plain_key_value value.now) }
     {
         if self.perfect.is_some() {
             return None;
@@ -113,7 +117,8 @@ impl TailKeys {
 
     /// These with the key of the argument; None also where it has none.
     fn with_argument(self, alloc: Global, arg: &ArgText) -> Result<Option<TailKeys>, AllocError>
-        ensures { IfOk result (λ k. option_map plain_keys k ≡ plain.with_argument (plain_keys self) (plain_argument arg.now)) }
+        ensures { IfOk result (λ k. option_map plain_keys k
+            ≡ plain.with_argument (plain_keys self) (plain_argument arg.now)) }
     {
         match arg {
             ArgText::Key(name, value) => self.with_key(alloc, name, value),
@@ -123,7 +128,8 @@ impl TailKeys {
 
     /// These with the keys of all arguments; None where one is refused.
     fn with_all(self, alloc: Global, args: &[ArgText]) -> Result<Option<TailKeys>, AllocError>
-        ensures { IfOk result (λ k. option_map plain_keys k ≡ plain.keys_behind (plain_keys self) (map plain_argument args.now)) }
+        ensures { IfOk result (λ k. option_map plain_keys k
+            ≡ plain.keys_behind (plain_keys self) (map plain_argument args.now)) }
     {
         let [first, more @ ..] = args else {
             return Ok(Some(self));
@@ -169,7 +175,10 @@ pub fn division_of(
     names: &ArgText,
     keys: &[ArgText],
 ) -> Result<Option<Box<Division>>, AllocError>
-    ensures { IfOk result (λ found. AsksOne (AsksDivision (plain_argument by.now) (plain_argument names.now) (map plain_argument keys.now)) (λ d. plain_division d.value) found) }
+    ensures { IfOk result (λ found. AsksOne
+        (AsksDivision (plain_argument by.now) (plain_argument names.now)
+        (map plain_argument keys.now))
+        (λ d. plain_division d.value) found) }
 {
     let Some(by) = number_in(by) else {
         return Ok(None);

@@ -6,7 +6,9 @@ use Rattle.text_phrases.specs.Sequence.{exactly, MaybeFits, maybe, then_by}
 use Rattle.text_lexer.specs.declared.token.Token.{Token}
 use Rattle.text_lexer.specs.declared.token.Token.TheVariants.{Name, Word, Sign}
 use Rattle.text_lexer.specs.declared.token.Word.TheVariants as w
-use Rattle.text_lexer.specs.declared.token.Sign.TheVariants.{Any, Open, Close, OpenBracket, CloseBracket, Colon, Dot, Assign, Reduce, Plus, Minus, Times}
+use Rattle.text_lexer.specs.declared.token.Sign.TheVariants.{Any, Open, Close, OpenBracket}
+use Rattle.text_lexer.specs.declared.token.Sign.TheVariants.{CloseBracket, Colon, Dot, Assign}
+use Rattle.text_lexer.specs.declared.token.Sign.TheVariants.{Reduce, Plus, Minus, Times}
 use Rattle.text_expressions.specs.Values.{name}
 use Rattle.cursor_patterns.specs.Patterns as p
 

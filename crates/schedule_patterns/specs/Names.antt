@@ -1,5 +1,7 @@
 -- Names: texts that are exactly the bytes of one, with no blank.
-use Rattle.std.specs.Prelude.{ℕ, ◌+◌, ◌≤◌, List, [], ◌∷◌, if◌then◌else◌, nat_lt, length, drop, Option, Some, None, Result, MatchResult, ◌≡◌, Bool, true, false, take_while, bytes_eq, codes}
+use Rattle.std.specs.Prelude.{ℕ, ◌+◌, ◌≤◌, List, [], ◌∷◌, if◌then◌else◌, nat_lt, length, drop}
+use Rattle.std.specs.Prelude.{Option, Some, None, Result, MatchResult, ◌≡◌, Bool, true, false}
+use Rattle.std.specs.Prelude.{take_while, bytes_eq, codes}
 use Rattle.text_lexer.specs.Bytes.{begins_name, goes_on_name}
 use Rattle.text_lexer.specs.Piece.{piece_of, word_of}
 use Rattle.text_lexer.specs.declared.token.Token.{Token}

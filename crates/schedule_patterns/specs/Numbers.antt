@@ -1,6 +1,8 @@
 -- The number at the end of a pattern: at least one blank, `#`, and a literal right behind it. A
 -- pattern has no comment.
-use Rattle.std.specs.Prelude.{ℕ, ◌+◌, ◌-◌, List, [], ◌∷◌, Bool, true, false, if◌then◌else◌, nat_eq, length, take_while, drop, Option, Some, None, slice_get, Result, Ok, Err, MatchResult, ◌≡◌}
+use Rattle.std.specs.Prelude.{ℕ, ◌+◌, ◌-◌, List, [], ◌∷◌, Bool, true, false, if◌then◌else◌, nat_eq}
+use Rattle.std.specs.Prelude.{length, take_while, drop, Option, Some, None, slice_get, Result, Ok}
+use Rattle.std.specs.Prelude.{Err, MatchResult, ◌≡◌}
 use Rattle.text_lexer.specs.Piece.{piece_of}
 use Rattle.text_lexer.specs.declared.token.Literal.{Literal}
 use Rattle.text_lexer.specs.declared.token.Literal.TheVariants.{Value, TooLarge}
@@ -67,4 +69,5 @@ number_of text =
 -- exactly the number of a pattern, or exactly what is wrong with it
 abbrev pub ReadsNumber : List ℕ → Result ℕ ReadError → Type 0
 ReadsNumber text result =
-    MatchResult result (λ n. number_of text ≡ Ok n) (λ e. UnlessMemory e.kind (number_of text ≡ Err e))
+    MatchResult result (λ n. number_of text ≡ Ok n)
+    (λ e. UnlessMemory e.kind (number_of text ≡ Err e))

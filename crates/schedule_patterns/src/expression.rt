@@ -31,7 +31,8 @@ fn read_index(tokens: &[Token]) -> Result<&[Token], Refusal>
 
 /// What stands behind a `_` that goes on.
 fn read_behind_any(tokens: &[Token]) -> Result<(ExprForm, &[Token]), Refusal>
-    ensures { ReadsAs (after_name None) (λ a. form_meant (None, Some a)) tokens.now (λ x. plain_form x.0) (λ x. x.1.now) result }
+    ensures { ReadsAs (after_name None) (λ a. form_meant (None, Some a)) tokens.now
+        (λ x. plain_form x.0) (λ x. x.1.now) result }
 {
     if let Some(after) = behind(tokens, Fixed::Sign(Sign::Plus)) {
         return followed_by(ExprForm::Add, after, &[Fixed::Sign(Sign::Any)]);
@@ -48,7 +49,8 @@ fn read_behind_any(tokens: &[Token]) -> Result<(ExprForm, &[Token]), Refusal>
 
 /// What stands behind a `_`, if anything does.
 fn read_after_any(tokens: &[Token]) -> Result<(ExprForm, &[Token]), Refusal>
-    ensures { ReadsAs (maybe (after_name None) IsEnd) (λ a. form_meant (None, a)) tokens.now (λ x. plain_form x.0) (λ x. x.1.now) result }
+    ensures { ReadsAs (maybe (after_name None) IsEnd) (λ a. form_meant (None, a)) tokens.now
+        (λ x. plain_form x.0) (λ x. x.1.now) result }
 {
     let Some(_) = next(tokens) else {
         return Ok((ExprForm::Read(None), tokens));
@@ -58,7 +60,8 @@ fn read_after_any(tokens: &[Token]) -> Result<(ExprForm, &[Token]), Refusal>
 
 /// What stands behind a name, if anything does.
 fn read_after_name(name: Name, tokens: &[Token]) -> Result<(ExprForm, &[Token]), Refusal>
-    ensures { ReadsAs (maybe (after_name (Some name)) IsEnd) (λ a. form_meant (Some name, a)) tokens.now (λ x. plain_form x.0) (λ x. x.1.now) result }
+    ensures { ReadsAs (maybe (after_name (Some name)) IsEnd) (λ a. form_meant (Some name, a))
+        tokens.now (λ x. plain_form x.0) (λ x. x.1.now) result }
 {
     let Some(_) = next(tokens) else {
         return Ok((ExprForm::Read(Some(name)), tokens));

@@ -2,7 +2,8 @@
 
 ghost use Rattle.std.specs.Prelude.{◌≡◌, ◌∷◌};
 ghost use Rattle.text_phrases.specs.Sequence.{then};
-ghost use Rattle.schedule_patterns.specs.Grammar.{name_or_any, change, behind_name, maybe_behind, statement, named, meant};
+ghost use Rattle.schedule_patterns.specs.Grammar.{name_or_any, change, behind_name, maybe_behind};
+ghost use Rattle.schedule_patterns.specs.Grammar.{statement, named, meant};
 ghost use Rattle.schedule_patterns.specs.Told.{told_change, told, maybe_told, meant_by};
 ghost use Rattle.schedule_patterns.specs.Texts.{ReadsAs, ReadsWhole};
 ghost use Rattle.cursor_patterns.specs.PlainPattern.{plain_pattern};
@@ -44,7 +45,8 @@ fn read_change(tokens: &[Token]) -> Result<(Told, &[Token]), Refusal>
 
 /// What stands behind the bracket of a cell.
 fn read_cell(after: &[Token]) -> Result<(Told, &[Token]), Refusal>
-    ensures { ReadsAs behind_name told (Token.Sign Sign.OpenBracket ∷ after.now) (λ x. x.0) (λ x. x.1.now) result }
+    ensures { ReadsAs behind_name told (Token.Sign Sign.OpenBracket ∷ after.now) (λ x. x.0)
+        (λ x. x.1.now) result }
 {
     let inside = expect_all(
         after,
@@ -118,7 +120,8 @@ fn pattern_of(name: Option<Name>, told: Option<Told>) -> Pattern
 
 /// A pattern that begins with a name or `_`.
 fn read_named(alloc: Global, tokens: &[Token]) -> Result<(Pattern, &[Token]), Refusal>
-    ensures { ReadsAs (then name_or_any maybe_behind) (λ w. meant (named w.0 w.1)) tokens.now (λ x. plain_pattern x.0) (λ x. x.1.now) result }
+    ensures { ReadsAs (then name_or_any maybe_behind) (λ w. meant (named w.0 w.1)) tokens.now
+        (λ x. plain_pattern x.0) (λ x. x.1.now) result }
 {
     let (name, after) = read_name_or_any(alloc, tokens)?;
     let (told, rest) = read_maybe_behind(alloc, after)?;

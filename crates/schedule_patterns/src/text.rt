@@ -53,7 +53,8 @@ fn read_expression_form(alloc: Global, text: &[u8]) -> Result<ExprForm, ReadErro
 /// What was read of a text, with the text's number.
 fn with_number<T: Drop>(alloc: Global, bytes: &[u8], form: T) -> Result<(T, u32), ReadError>
     requires { length bytes.now ≤ 0x100000 }
-    ensures { MatchResult result (λ x. (x.0 ≡ form) × (number_of bytes.now ≡ Ok x.1)) (λ e. UnlessMemory e.kind (number_of bytes.now ≡ Err e)) }
+    ensures { MatchResult result (λ x. (x.0 ≡ form) × (number_of bytes.now ≡ Ok x.1))
+        (λ e. UnlessMemory e.kind (number_of bytes.now ≡ Err e)) }
 {
     let nth = read_number(alloc, bytes)?;
     Ok((form, nth))
@@ -75,7 +76,8 @@ pub fn read_pattern(alloc: Global, bytes: &[u8]) -> Result<(Pattern, u32), ReadE
 /// no pattern begins so, by the same kinds as for a pattern of statements.
 pub fn read_expr_pattern(alloc: Global, bytes: &[u8]) -> Result<ExprPattern, ReadError>
     requires { length bytes.now ≤ 0x100000 }
-    ensures { ReadsPattern expression form_meant bytes.now (λ x. plain_form x.form) (λ x. x.nth) result }
+    ensures { ReadsPattern expression form_meant bytes.now (λ x. plain_form x.form) (λ x. x.nth)
+        result }
 {
     let form = read_expression_form(alloc, form_in(bytes))?;
     let nth = read_number(alloc, bytes)?;

@@ -9,12 +9,15 @@ use Rattle.text_phrases.specs.declared.Refusal.TheVariants.{TooLong, Syntax}
 use Rattle.text_lexer.specs.declared.token.Literal.{Literal}
 use Rattle.text_lexer.specs.declared.token.Token.{Token}
 use Rattle.text_lexer.specs.declared.token.Token.TheVariants.{Name, Sign, Word, NewLine}
-use Rattle.text_lexer.specs.declared.token.Sign.TheVariants.{Open, Close, OpenBracket, CloseBracket, Comma, Dot, Assign}
+use Rattle.text_lexer.specs.declared.token.Sign.TheVariants.{Open, Close, OpenBracket, CloseBracket}
+use Rattle.text_lexer.specs.declared.token.Sign.TheVariants.{Comma, Dot, Assign}
 use Rattle.text_lexer.specs.declared.token.Word.TheVariants as w
 use Rattle.text_expressions.specs.Values.{name, literal}
 use Rattle.exo_reader.specs.Parts.{Is, StartsWithName}
 use Rattle.exo_reader.specs.Items.{neighbours}
-use Rattle.schedule_text.specs.Tree.{Move, go, expand, item, Found, Cursor, held, KeyValue, text, yes, no, Argument, cursor, string, int, pair, key, Arguments, Act, operation, search, moved, Line, bind, emit}
+use Rattle.schedule_text.specs.Tree.{Move, go, expand, item, Found, Cursor, held, KeyValue, text}
+use Rattle.schedule_text.specs.Tree.{yes, no, Argument, cursor, string, int, pair, key, Arguments}
+use Rattle.schedule_text.specs.Tree.{Act, operation, search, moved, Line, bind, emit}
 use Rattle.schedule_text.specs.Tree as tree
 use Rattle.schedule_text.specs.Words.{word, expand_word, find_word, emit_word}
 
@@ -34,7 +37,8 @@ MoveFits limits (expand a b) = literal.Fits limits a × literal.Fits limits b
 MoveFits limits (item k) = literal.Fits limits k
 
 abbrev pub two_numbers : Literal → Literal → List Token
-two_numbers a b = Sign Open ∷ (literal.spell a ++ (Sign Comma ∷ (literal.spell b ++ (Sign Close ∷ []))))
+two_numbers a b =
+    Sign Open ∷ (literal.spell a ++ (Sign Comma ∷ (literal.spell b ++ (Sign Close ∷ []))))
 
 abbrev pub spell_move : Move → List Token
 spell_move (go direction) = Sign Dot ∷ Name (word direction) ∷ Sign Open ∷ Sign Close ∷ []
@@ -49,10 +53,12 @@ moves = many move NoMove
 
 -- what stands behind `find (`: a name, a string and moves
 abbrev pub FoundFits : Limits → Found → Type 0
-FoundFits limits f = name.Fits limits f.version × neighbours.Fits limits f.pattern × moves.Fits limits f.moves
+FoundFits limits f =
+    name.Fits limits f.version × neighbours.Fits limits f.pattern × moves.Fits limits f.moves
 
 abbrev pub spell_found : Found → List Token
-spell_found f = Name f.version ∷ Sign Comma ∷ (neighbours.spell f.pattern ++ (Sign Close ∷ moves.spell f.moves))
+spell_found f =
+    Name f.version ∷ Sign Comma ∷ (neighbours.spell f.pattern ++ (Sign Close ∷ moves.spell f.moves))
 
 abbrev pub found : Phrase Token Found
 found = record { Fits = FoundFits; spell = spell_found; Follows = NoMove }
@@ -95,7 +101,8 @@ ArgumentFits limits (pair a b) = neighbours.Fits limits a × neighbours.Fits lim
 ArgumentFits limits (key x v) = name.Fits limits x × key_value.Fits limits v
 
 abbrev pub two_strings : List (List ℕ) → List (List ℕ) → List Token
-two_strings a b = neighbours.spell a ++ (Sign Comma ∷ (neighbours.spell b ++ (Sign CloseBracket ∷ [])))
+two_strings a b =
+    neighbours.spell a ++ (Sign Comma ∷ (neighbours.spell b ++ (Sign CloseBracket ∷ [])))
 
 abbrev pub spell_argument : Argument → List Token
 spell_argument (cursor c) = spell_cursor c
@@ -118,7 +125,8 @@ more_arguments = commas argument (Sign Comma) AnyNumber (Is (Sign Close))
 abbrev pub arguments : Phrase Token Arguments
 arguments =
     record {
-      Fits = λ limits l. argument.Fits limits l.head × more_arguments.Fits limits (l.more, l.trailing);
+      Fits =
+          λ limits l. argument.Fits limits l.head × more_arguments.Fits limits (l.more, l.trailing);
       spell = λ l. argument.spell l.head ++ more_arguments.spell (l.more, l.trailing);
       Follows = Is (Sign Close);
     }

@@ -7,8 +7,10 @@ ghost use Rattle.text_lexer.specs.declared.token.Token.{Token};
 ghost use Rattle.text_expressions.specs.Values.{IsShortName};
 ghost use Rattle.exo_reader.specs.Items.{StartsWithString, neighbours};
 ghost use Rattle.schedule_text.specs.Words.{find_word};
-ghost use Rattle.schedule_text.specs.Grammar.{found, key_value, argument, more_arguments, arguments};
-ghost use Rattle.schedule_text.specs.Views.{plain_found, plain_key_value, plain_argument, plain_arguments};
+ghost use Rattle.schedule_text.specs.Grammar.{found, key_value, argument, more_arguments};
+ghost use Rattle.schedule_text.specs.Grammar.{arguments};
+ghost use Rattle.schedule_text.specs.Views.{plain_found, plain_key_value, plain_argument};
+ghost use Rattle.schedule_text.specs.Views.{plain_arguments};
 
 use crate::moves::read_moves;
 use crate::source::{ArgText, Arguments, CursorText, Found, KeyValue, Quoted};
@@ -62,7 +64,9 @@ fn read_key_value(alloc: Global, tokens: &[Token]) -> Result<(KeyValue, &[Token]
 /// What comes behind a key and its `=`.
 fn read_key(alloc: Global, name: Text, after: &[Token]) -> Result<(ArgText, &[Token]), Refusal>
     requires { IsShortName name }
-    ensures { Reads argument (Token.Name name ∷ Token.Sign Sign.Assign ∷ after.now) (λ x. plain_argument x.0) (λ x. x.1.now) result }
+    ensures { Reads argument (Token.Name name ∷ Token.Sign Sign.Assign ∷ after.now)
+        (λ x. plain_argument x.0)
+        (λ x. x.1.now) result }
 {
     let (value, rest) = read_key_value(alloc, after)?;
     Ok((ArgText::Key(name, value), rest))
@@ -70,7 +74,9 @@ fn read_key(alloc: Global, name: Text, after: &[Token]) -> Result<(ArgText, &[To
 
 /// A match as an argument, behind `find (`.
 fn read_match(alloc: Global, inside: &[Token]) -> Result<(ArgText, &[Token]), Refusal>
-    ensures { Reads argument (Token.Name find_word ∷ Token.Sign Sign.Open ∷ inside.now) (λ x. plain_argument x.0) (λ x. x.1.now) result }
+    ensures { Reads argument (Token.Name find_word ∷ Token.Sign Sign.Open ∷ inside.now)
+        (λ x. plain_argument x.0)
+        (λ x. x.1.now) result }
 {
     let (made, rest) = read_found(alloc, inside)?;
     Ok((ArgText::Cursor(CursorText::Find(made)), rest))
@@ -81,7 +87,8 @@ fn read_held(alloc: Global, name: Text, rest: &[Token]) -> Result<(ArgText, &[To
     requires short { IsShortName name }
     requires no_key { first rest.now ≡ Some (Token.Sign Sign.Assign) → ⊥ }
     requires no_find { name ≡ find_word → first rest.now ≡ Some (Token.Sign Sign.Open) → ⊥ }
-    ensures { Reads argument (Token.Name name ∷ rest.now) (λ x. plain_argument x.0) (λ x. x.1.now) result }
+    ensures { Reads argument (Token.Name name ∷ rest.now) (λ x. plain_argument x.0) (λ x. x.1.now)
+        result }
 {
     let (moves, after) = read_moves(alloc, rest)?;
     Ok((ArgText::Cursor(CursorText::Held(name, moves)), after))
@@ -89,7 +96,9 @@ fn read_held(alloc: Global, name: Text, rest: &[Token]) -> Result<(ArgText, &[To
 
 /// The tokens behind the parenthesis of a `find`.
 fn behind_find<'a>(name: &Text, rest: &'a [Token]) -> Option<&'a [Token]>
-    ensures { MatchOption result (name.now ≡ find_word → first rest.now ≡ Some (Token.Sign Sign.Open) → ⊥) (λ inside. (name.now ≡ find_word) × (rest.now ≡ Token.Sign Sign.Open ∷ inside.now)) }
+    ensures { MatchOption result
+        (name.now ≡ find_word → first rest.now ≡ Some (Token.Sign Sign.Open) → ⊥)
+        (λ inside. (name.now ≡ find_word) × (rest.now ≡ Token.Sign Sign.Open ∷ inside.now)) }
 {
     if is_find(name) {
         return behind(rest, Fixed::Sign(Sign::Open));
@@ -100,7 +109,8 @@ fn behind_find<'a>(name: &Text, rest: &'a [Token]) -> Option<&'a [Token]>
 /// What comes behind the name with which an argument begins.
 fn read_named(alloc: Global, name: Text, rest: &[Token]) -> Result<(ArgText, &[Token]), Refusal>
     requires { IsShortName name }
-    ensures { Reads argument (Token.Name name ∷ rest.now) (λ x. plain_argument x.0) (λ x. x.1.now) result }
+    ensures { Reads argument (Token.Name name ∷ rest.now) (λ x. plain_argument x.0) (λ x. x.1.now)
+        result }
 {
     if let Some(after) = behind(rest, Fixed::Sign(Sign::Assign)) {
         return read_key(alloc, name, after);
@@ -113,7 +123,8 @@ fn read_named(alloc: Global, name: Text, rest: &[Token]) -> Result<(ArgText, &[T
 
 /// Two strings, behind their bracket.
 fn read_pair(alloc: Global, inside: &[Token]) -> Result<(ArgText, &[Token]), Refusal>
-    ensures { Reads argument (Token.Sign Sign.OpenBracket ∷ inside.now) (λ x. plain_argument x.0) (λ x. x.1.now) result }
+    ensures { Reads argument (Token.Sign Sign.OpenBracket ∷ inside.now) (λ x. plain_argument x.0)
+        (λ x. x.1.now) result }
 {
     let (left, behind_left) = read_quoted(alloc, inside)?;
     let before_right = expect_all(behind_left, &[Fixed::Sign(Sign::Comma)])?;
@@ -170,7 +181,9 @@ struct MoreArguments {
 
 /// The arguments behind the first one, up to a closing parenthesis.
 fn read_more(alloc: Global, tokens: &[Token]) -> Result<(MoreArguments, &[Token]), Refusal>
-    ensures { Reads more_arguments tokens.now (λ x. (map plain_argument x.0.items.items, x.0.trailing)) (λ x. x.1.now) result }
+    ensures { Reads more_arguments tokens.now
+        (λ x. (map plain_argument x.0.items.items, x.0.trailing))
+        (λ x. x.1.now) result }
 {
     let mut items = Vec::new(alloc);
     let mut rest = tokens;

@@ -12,7 +12,8 @@ use text_lexer::token::{Token, next};
 
 /// The name that stands first, if one does.
 fn name_at(tokens: &[Token]) -> Option<(&Text, &[Token])>
-    ensures { MatchOption result ((n : List ℕ) → first tokens.now ≡ Some (Token.Name n) → ⊥) (λ x. tokens.now ≡ Token.Name x.0.now ∷ x.1.now) }
+    ensures { MatchOption result ((n : List ℕ) → first tokens.now ≡ Some (Token.Name n) → ⊥)
+        (λ x. tokens.now ≡ Token.Name x.0.now ∷ x.1.now) }
 {
     let (token, rest) = next(tokens)?;
     match token {
@@ -44,7 +45,8 @@ fn is_expand(name: &Text) -> bool
 
 /// The tokens behind an `expand` that stands first.
 pub fn behind_expand(tokens: &[Token]) -> Option<&[Token]>
-    ensures { MatchOption result (first tokens.now ≡ Some (Token.Name expand_word) → ⊥) (λ rest. tokens.now ≡ Token.Name expand_word ∷ rest.now) }
+    ensures { MatchOption result (first tokens.now ≡ Some (Token.Name expand_word) → ⊥)
+        (λ rest. tokens.now ≡ Token.Name expand_word ∷ rest.now) }
 {
     let (name, rest) = name_at(tokens)?;
     if is_expand(name) {
@@ -76,7 +78,9 @@ fn direction_of(text: &[u8]) -> Option<Direction>
 
 /// The direction that stands first, and the tokens behind it.
 pub fn direction_at(tokens: &[Token]) -> Option<(Direction, &[Token])>
-    ensures { MatchOption result ((d : Direction) → first tokens.now ≡ Some (Token.Name (word d)) → ⊥) (λ x. tokens.now ≡ Token.Name (word x.0) ∷ x.1.now) }
+    ensures { MatchOption result
+        ((d : Direction) → first tokens.now ≡ Some (Token.Name (word d)) → ⊥)
+        (λ x. tokens.now ≡ Token.Name (word x.0) ∷ x.1.now) }
 {
     let (name, rest) = name_at(tokens)?;
     let direction = direction_of(name.as_slice())?;

@@ -18,7 +18,8 @@ with_links left (l ∷ links) = with_links (binary l.operator left l.right) link
 
 abbrev pub LinksAt : ℕ → List Link → Type 0
 LinksAt level [] = Unit {0}
-LinksAt level (l ∷ links) = (level_of l.operator ≡ level) × Stands (suc level) l.right × LinksAt level links
+LinksAt level (l ∷ links) =
+    (level_of l.operator ≡ level) × Stands (suc level) l.right × LinksAt level links
 
 -- the tree goes on from the left one by links
 pub record Extends (level : ℕ) (left other : Tree) : Type 0 where
@@ -27,7 +28,14 @@ pub record Extends (level : ℕ) (left other : Tree) : Type 0 where
   pub is : other ≡ with_links left links
 
 -- the left tree is read, and links may come
-pub record Begun (level : ℕ) (room : Room) (tokens : List Token) (left : Tree) (rest : List Token) : Type 0 where
+pub record Begun (level : ℕ) (room : Room) (tokens : List Token) (left : Tree)
+    (rest : List Token) : Type 0 where
   pub fits : (limits : Limits) → (operand level room).Fits limits left
   pub whole : tokens ≡ spelling left ++ rest
-  pub only : (limits : Limits) (other : Tree) (x y : List Token) → first rest ≡ first x → (operand level room).Fits limits other → (operand level room).Follows (first y) → spelling left ++ x ≡ spelling other ++ y → Extends level left other
+  pub only :
+      (limits : Limits) (other : Tree) (x y : List Token)
+      → first rest ≡ first x
+      → (operand level room).Fits limits other
+      → (operand level room).Follows (first y)
+      → spelling left ++ x ≡ spelling other ++ y
+      → Extends level left other

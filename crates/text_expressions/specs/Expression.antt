@@ -1,12 +1,14 @@
 -- The grammar of expressions, with its limits.
-use Rattle.std.specs.Prelude.{◌≡◌, ℕ, suc, ◌+◌, ◌-◌, ◌≤◌, ◌<◌, max, Bool, true, false, List, [], ◌∷◌, ◌++◌, length, Option, Some, None}
+use Rattle.std.specs.Prelude.{◌≡◌, ℕ, suc, ◌+◌, ◌-◌, ◌≤◌, ◌<◌, max, Bool, true, false, List, []}
+use Rattle.std.specs.Prelude.{◌∷◌, ◌++◌, length, Option, Some, None}
 use Rattle.text_phrases.specs.Limits.{Limits, Keeps}
 use Rattle.text_phrases.specs.Phrase.{first, Phrase}
 use Rattle.text_phrases.specs.Sequence.{exactly, then}
 use Rattle.text_phrases.specs.Commas.{listing}
 use Rattle.text_front.specs.Values.{IsShortName, IsValue}
 use Rattle.text_expressions.specs.declared.source.Operator.{Operator}
-use Rattle.text_expressions.specs.declared.source.Operator.TheVariants.{Or, And, Lt, Le, Gt, Ge, Eq, Add, Sub, Mul, Div, Mod}
+use Rattle.text_expressions.specs.declared.source.Operator.TheVariants.{Or, And, Lt, Le, Gt, Ge, Eq}
+use Rattle.text_expressions.specs.declared.source.Operator.TheVariants.{Add, Sub, Mul, Div, Mod}
 use Rattle.text_lexer.specs.declared.token.Literal.{Literal}
 use Rattle.text_lexer.specs.declared.token.Sign.{Sign}
 use Rattle.text_lexer.specs.declared.token.Sign.TheVariants as s
@@ -16,8 +18,8 @@ use Rattle.text_lexer.specs.declared.token.Token.{Token}
 use Rattle.text_lexer.specs.declared.token.Token.TheVariants as t
 use Rattle.text_expressions.specs.declared.expression.Room.{Room}
 
--- An expression as it is written, without where it lies in memory. A list of indices is written out, since a type holds no
--- lists of itself.
+-- An expression as it is written, without where it lies in memory. A list of indices is written
+-- out, since a type holds no lists of itself.
 mutual
   pub data Tree : Type 0 where
     number : Literal → Tree
@@ -111,7 +113,8 @@ joins (t.Sign x) = joins_by_sign x
 joins (t.Word x) = joins_by_word x
 joins other = None
 
--- the depth of a tree, where a leaf has 1, a pair of parentheses is a level, and an access is deeper than its indices
+-- the depth of a tree, where a leaf has 1, a pair of parentheses is a level, and an access is
+-- deeper than its indices
 abbrev mutual
   pub depth : Tree → ℕ
   depth (number n) = 1
@@ -212,7 +215,10 @@ abbrev mutual
   Stands level (select a b c d) = Stands 0 a × Stands 0 b × Stands 0 c × Stands 0 d
   Stands level (negative inner) = Stands 5 inner
   Stands level (parens inner) = Stands 0 inner
-  Stands level (binary operator left right) = (level ≤ level_of operator) × Stands (left_level operator) left × Stands (suc (level_of operator)) right
+  Stands level (binary operator left right) =
+      (level ≤ level_of operator)
+      × Stands (left_level operator) left
+      × Stands (suc (level_of operator)) right
 
   pub AllStand : Trees → Type 0
   AllStand end = Unit {0}
@@ -227,11 +233,17 @@ abbrev mutual
   spelling (number n) = t.Int n ∷ []
   spelling (truth b) = word_of b ∷ []
   spelling (variable x) = t.Name x ∷ []
-  spelling (access x indices) = t.Name x ∷ t.Sign s.OpenBracket ∷ (spelling_list indices ++ (t.Sign s.CloseBracket ∷ []))
+  spelling (access x indices) =
+      t.Name x ∷ t.Sign s.OpenBracket ∷ (spelling_list indices ++ (t.Sign s.CloseBracket ∷ []))
   spelling (field x f) = t.Name x ∷ t.Sign s.Dot ∷ t.Name f ∷ []
-  spelling (stride x n) = t.Word w.Stride ∷ t.Sign s.Open ∷ t.Name x ∷ t.Sign s.Comma ∷ t.Int n ∷ t.Sign s.Close ∷ []
+  spelling (stride x n) =
+      t.Word w.Stride ∷ t.Sign s.Open ∷ t.Name x ∷ t.Sign s.Comma ∷ t.Int n ∷ t.Sign s.Close ∷ []
   spelling (relu inner) = t.Word w.Relu ∷ t.Sign s.Open ∷ (spelling inner ++ (t.Sign s.Close ∷ []))
-  spelling (select a b c d) = t.Word w.Select ∷ t.Sign s.Open ∷ (spelling a ++ (t.Sign s.Comma ∷ (spelling b ++ (t.Sign s.Comma ∷ (spelling c ++ (t.Sign s.Comma ∷ (spelling d ++ (t.Sign s.Close ∷ []))))))))
+  spelling (select a b c d) =
+      t.Word w.Select ∷ t.Sign s.Open ∷ (spelling a
+      ++ (t.Sign s.Comma ∷ (spelling b
+      ++ (t.Sign s.Comma ∷ (spelling c
+      ++ (t.Sign s.Comma ∷ (spelling d ++ (t.Sign s.Close ∷ []))))))))
   spelling (negative inner) = t.Sign s.Minus ∷ spelling inner
   spelling (parens inner) = t.Sign s.Open ∷ (spelling inner ++ (t.Sign s.Close ∷ []))
   spelling (binary operator left right) = spelling left ++ (sign operator ∷ spelling right)
@@ -267,13 +279,19 @@ pub record HasPlace (room : Room) : Type 0 where
   pub depth : 1 ≤ room.depth
   pub nodes : 1 ≤ room.nodes
 
--- where these limits count, the tree is so deep at most and has so many nodes at most, and it is short and small
+-- where these limits count, the tree is so deep at most and has so many nodes at most, and it is
+-- short and small
 abbrev pub Within : Limits → Room → Tree → Type 0
-Within limits room tree = Keeps limits (depth tree ≤ room.depth) ((nodes tree ≤ room.nodes) × IsShort tree) (IsSmall tree)
+Within limits room tree =
+    Keeps limits (depth tree ≤ room.depth) ((nodes tree ≤ room.nodes) × IsShort tree) (IsSmall tree)
 
 -- an operand of a level within a room: level 0 is a whole expression, and 5 what no operator splits
 abbrev pub operand : ℕ → Room → Phrase Token Tree
-operand level room = record { Fits = λ limits tree. Stands level tree × Within limits room tree; spell = spelling; Follows = FollowsOperand level }
+operand level room = record {
+  Fits = λ limits tree. Stands level tree × Within limits room tree;
+  spell = spelling;
+  Follows = FollowsOperand level;
+}
 
 -- a whole expression within a room, and the sign that ends it
 abbrev pub ended_by : Sign → Room → Phrase Token (Tree × (Unit {0}))
@@ -314,4 +332,5 @@ indices depth = listing (operand 0 (control_room depth)) (t.Sign s.Comma) FewDim
 
 -- no operator of this level stands first
 abbrev pub NoSign : ℕ → List Token → Type 0
-NoSign level tokens = (operator : Operator) → first tokens ≡ Some (sign operator) → level_of operator ≡ level → ⊥
+NoSign level tokens =
+    (operator : Operator) → first tokens ≡ Some (sign operator) → level_of operator ≡ level → ⊥

@@ -1,9 +1,14 @@
 -- Source trees without where they lie in memory.
 use Rattle.std.specs.Prelude.{◌≡◌, map}
-use Rattle.text_expressions.specs.Expression.{Tree, number, truth, variable, access, field, stride, relu, select, negative, parens, binary, trees, depth, deepest, nodes}
+use Rattle.text_expressions.specs.Expression.{Tree, number, truth, variable, access, field, stride}
+use Rattle.text_expressions.specs.Expression.{relu, select, negative, parens, binary, trees, depth}
+use Rattle.text_expressions.specs.Expression.{deepest, nodes}
 use Rattle.text_lexer.specs.declared.token.Literal.TheVariants.{Value}
 use Rattle.text_expressions.specs.declared.source.SourceExpr.{SourceExpr}
-use Rattle.text_expressions.specs.declared.source.SourceExpr.TheOpen.{SourceExpr-F, Int, Truth, Name, Access, Field, Stride, Relu, Select, Negative, Parens, Binary}
+use Rattle.text_expressions.specs.declared.source.SourceExpr.TheOpen.{SourceExpr-F, Int, Truth}
+use Rattle.text_expressions.specs.declared.source.SourceExpr.TheOpen.{Name, Access, Field, Stride}
+use Rattle.text_expressions.specs.declared.source.SourceExpr.TheOpen.{Relu, Select, Negative}
+use Rattle.text_expressions.specs.declared.source.SourceExpr.TheOpen.{Parens, Binary}
 use Rattle.text_expressions.specs.declared.source.SourceExpr.TheFolds.{fold-SourceExpr}
 use Rattle.text_expressions.specs.declared.expression.Measured.{Measured}
 use Rattle.text_expressions.specs.declared.expression.Indices.{Indices}

@@ -1,5 +1,7 @@
 -- The tokens of a text: those of its lines, and what its line ends and indentations say.
-use Rattle.std.specs.Prelude.{ℕ, zero, suc, ◌+◌, ◌-◌, List, [], ◌∷◌, ◌++◌, Bool, true, false, if◌then◌else◌, nat_eq, nat_lt, length, replicate, bytes_eq, codes, take}
+use Rattle.std.specs.Prelude.{ℕ, zero, suc, ◌+◌, ◌-◌, List, [], ◌∷◌, ◌++◌, Bool, true, false}
+use Rattle.std.specs.Prelude.{if◌then◌else◌, nat_eq, nat_lt, length, replicate, bytes_eq, codes}
+use Rattle.std.specs.Prelude.{take}
 use Rattle.text_lexer.specs.Piece.{piece_of}
 use Rattle.text_lexer.specs.declared.token.Token.{Token}
 use Rattle.text_lexer.specs.declared.token.Token.TheVariants as token
@@ -31,7 +33,8 @@ abbrev pub longer : ℕ → List (List ℕ) → List (List ℕ)
 longer b [] = (b ∷ []) ∷ []
 longer b (line ∷ more) = (b ∷ line) ∷ more
 
--- the lines of a text, without the line feeds between them; what stands behind the last one is a line too
+-- the lines of a text, without the line feeds between them; what stands behind the last one is a
+-- line too
 abbrev pub lines : List ℕ → List (List ℕ)
 lines [] = [] ∷ []
 lines (b ∷ rest) =
@@ -44,15 +47,16 @@ abbrev pub line_end_width : List ℕ → ℕ
 line_end_width [] = 0
 line_end_width (b ∷ rest) = if nat_eq b 0x0A then 1 else (if is_skipped_return b rest then 2 else 0)
 
--- the tokens of a line from a column on, of whose bytes the first ones may belong to a token before them; a comment
--- goes to the line's end
+-- the tokens of a line from a column on, of whose bytes the first ones may belong to a token before
+-- them; a comment goes to the line's end
 abbrev pub tokens_in : ℕ → ℕ → ℕ → List ℕ → List Placed
 tokens_in line column covered [] = []
 tokens_in line column (suc covered) (b ∷ rest) = tokens_in line (column + 1) covered rest
 tokens_in line column zero (b ∷ rest) =
     if nat_eq b 0x20 then tokens_in line (column + 1) zero rest
     else (if nat_eq b 0x23 then []
-    else put (at line column) (piece_of (b ∷ rest)).token ∷ tokens_in line (column + 1) ((piece_of (b ∷ rest)).width - 1) rest)
+    else put (at line column) (piece_of (b ∷ rest)).token
+    ∷ tokens_in line (column + 1) ((piece_of (b ∷ rest)).width - 1) rest)
 
 -- nothing counts behind a fault
 abbrev pub is_fault : Token → Bool
@@ -89,10 +93,13 @@ brackets_after n (p ∷ more) = brackets_after (brackets_behind n p.token) more
 
 -- a line of these is skipped whole where no bracket is open
 abbrev pub is_import : List ℕ → Bool
-is_import line = if bytes_eq (take 5 line) (codes "from ") then true else bytes_eq (take 7 line) (codes "import ")
+is_import line =
+    if bytes_eq (take 5 line) (codes "from ")
+    then true
+    else bytes_eq (take 7 line) (codes "import ")
 
--- The blocks that are indented are known by the columns at which their lines begin, the innermost first. Outside them
--- lines begin at column 1.
+-- The blocks that are indented are known by the columns at which their lines begin, the innermost
+-- first. Outside them lines begin at column 1.
 abbrev pub innermost : List ℕ → ℕ
 innermost [] = 1
 innermost (column ∷ outer) = column
@@ -104,14 +111,16 @@ still_open column (c ∷ outer) = if nat_lt column c then still_open column oute
 
 -- the blocks behind the beginning of a line at a column
 abbrev pub blocks_at : ℕ → List ℕ → List ℕ
-blocks_at column blocks = if nat_lt (innermost blocks) column then column ∷ blocks else still_open column blocks
+blocks_at column blocks =
+    if nat_lt (innermost blocks) column then column ∷ blocks else still_open column blocks
 
 -- one indent, or a dedent for each block that ends, or a fault where no block has the column
 abbrev pub indentation : ℕ → ℕ → List ℕ → List Placed
 indentation line column blocks =
     if nat_lt (innermost blocks) column then put (at line 1) token.Indent ∷ []
     else (if nat_eq (innermost (still_open column blocks)) column
-    then replicate (length blocks - length (still_open column blocks)) (put (at line 1) token.Dedent)
+    then replicate (length blocks - length (still_open column blocks))
+    (put (at line 1) token.Dedent)
     else put (at line 1) (token.Bad Indentation) ∷ [])
 
 abbrev pub is_foreign : Token → Bool
@@ -132,8 +141,8 @@ pub record Laid : Type 0 where
   pub blocks : List ℕ
   pub brackets : ℕ
 
--- A line that begins where no bracket is open. One without tokens counts for nothing, and a byte that no text has leaves
--- its indentation open.
+-- A line that begins where no bracket is open. One without tokens counts for nothing, and a byte
+-- that no text has leaves its indentation open.
 abbrev pub begun : List ℕ → Place → List Placed → Laid
 begun blocks end [] = record { placed = []; blocks = blocks; brackets = 0 }
 begun blocks end (p ∷ more) =
@@ -166,24 +175,28 @@ end_place text = end_from 1 (lines text)
 -- the end of the text ends a line that brackets hold open, and all blocks
 abbrev pub text_end : Place → List ℕ → ℕ → List Placed
 text_end end blocks zero = replicate (length blocks) (put end token.Dedent)
-text_end end blocks (suc n) = put end token.NewLine ∷ replicate (length blocks) (put end token.Dedent)
+text_end end blocks (suc n) =
+    put end token.NewLine ∷ replicate (length blocks) (put end token.Dedent)
 
 -- the tokens of lines from this one on, with these blocks and so many brackets open before it
 abbrev pub layout : Place → ℕ → List ℕ → ℕ → List (List ℕ) → List Placed
 layout end line blocks brackets [] = text_end end blocks brackets
 layout end line blocks brackets (bytes ∷ more) =
     (laid line blocks brackets bytes).placed
-    ++ layout end (line + 1) (laid line blocks brackets bytes).blocks (laid line blocks brackets bytes).brackets more
+    ++ layout end (line + 1) (laid line blocks brackets bytes).blocks
+    (laid line blocks brackets bytes).brackets more
 
 -- the tokens of a text with their places
 abbrev pub lexed : List ℕ → List Placed
 lexed text = up_to_fault (layout (end_place text) 1 [] 0 (lines text))
 
--- the tokens of a text that is to be one line, as the string of an argument; a second line begins behind a line end
+-- the tokens of a text that is to be one line, as the string of an argument; a second line begins
+-- behind a line end
 abbrev pub one_line : List (List ℕ) → List Placed
 one_line [] = []
 one_line (bytes ∷ []) = line_tokens 1 bytes
-one_line (bytes ∷ next ∷ more) = up_to_fault (line_tokens 1 bytes ++ (put (at 1 (length bytes + 1)) token.NewLine ∷ []))
+one_line (bytes ∷ next ∷ more) =
+    up_to_fault (line_tokens 1 bytes ++ (put (at 1 (length bytes + 1)) token.NewLine ∷ []))
 
 abbrev pub line_lexed : List ℕ → List Placed
 line_lexed text = one_line (lines text)

@@ -1,14 +1,22 @@
 -- The token that begins at a byte, by the longest match.
-use Rattle.std.specs.Prelude.{ℕ, ◌+◌, ◌*◌, ◌-◌, List, [], ◌∷◌, if◌then◌else◌, nat_eq, nat_lt, Option, Some, None, length, take_while, bytes_eq, codes}
+use Rattle.std.specs.Prelude.{ℕ, ◌+◌, ◌*◌, ◌-◌, List, [], ◌∷◌, if◌then◌else◌, nat_eq, nat_lt}
+use Rattle.std.specs.Prelude.{Option, Some, None, length, take_while, bytes_eq, codes}
 use Rattle.std.specs.Char.{is_ascii_digit}
 use Rattle.text_lexer.specs.Bytes.{is_printable, is_quote, begins_name, goes_on_name}
 use Rattle.text_lexer.specs.Quoted.{quoted}
 use Rattle.text_lexer.specs.declared.token.Word.{Word}
-use Rattle.text_lexer.specs.declared.token.Word.TheVariants.{And, Assert, Class, Def, Else, For, From, If, Import, In, Or, Pass, Relu, Select, Seq, Stride, True, False}
+use Rattle.text_lexer.specs.declared.token.Word.TheVariants.{And, Assert, Class, Def, Else, For}
+use Rattle.text_lexer.specs.declared.token.Word.TheVariants.{From, If, Import, In, Or, Pass, Relu}
+use Rattle.text_lexer.specs.declared.token.Word.TheVariants.{Select, Seq, Stride, True, False}
 use Rattle.text_lexer.specs.declared.token.Sign.{Sign}
-use Rattle.text_lexer.specs.declared.token.Sign.TheVariants.{Open, Close, OpenBracket, CloseBracket, Comma, Colon, Dot, Assign, Reduce, Plus, Minus, Times, Divide, Modulo, Less, LessEqual, Greater, GreaterEqual, Equal, Any, At}
+use Rattle.text_lexer.specs.declared.token.Sign.TheVariants.{Open, Close, OpenBracket, CloseBracket}
+use Rattle.text_lexer.specs.declared.token.Sign.TheVariants.{Comma, Colon, Dot, Assign, Reduce}
+use Rattle.text_lexer.specs.declared.token.Sign.TheVariants.{Plus, Minus, Times, Divide, Modulo}
+use Rattle.text_lexer.specs.declared.token.Sign.TheVariants.{Less, LessEqual, Greater, GreaterEqual}
+use Rattle.text_lexer.specs.declared.token.Sign.TheVariants.{Equal, Any, At}
 use Rattle.text_lexer.specs.declared.token.Decorator.{Decorator}
-use Rattle.text_lexer.specs.declared.token.Decorator.TheVariants.{Procedure, Instruction, Configuration, MemoryClass}
+use Rattle.text_lexer.specs.declared.token.Decorator.TheVariants.{Procedure, Instruction}
+use Rattle.text_lexer.specs.declared.token.Decorator.TheVariants.{Configuration, MemoryClass}
 use Rattle.text_lexer.specs.declared.token.Literal.{Literal}
 use Rattle.text_lexer.specs.declared.token.Literal.TheVariants.{Value, TooLarge}
 use Rattle.text_lexer.specs.declared.token.Fault.TheVariants.{Byte, Spelling}
@@ -94,8 +102,8 @@ string_ending Closed q = record { token = token.Str q.text; width = q.width + 1 
 string_ending Foreign q = record { token = token.Str q.text; width = q.width + 1 }
 string_ending Unclosed q = record { token = token.Bad Spelling; width = 1 }
 
--- the piece of a string: what it stands for, also up to a byte that no text has, so that such a byte counts only
--- where a string may stand
+-- the piece of a string: what it stands for, also up to a byte that no text has, so that such a
+-- byte counts only where a string may stand
 abbrev pub string_piece : Quoted → Piece
 string_piece q = string_ending q.ending q
 
@@ -105,7 +113,8 @@ word_token None text = token.Name text
 
 -- a name; a word or `_` alone is none
 abbrev pub name_token : List ℕ → Token
-name_token text = if bytes_eq text (codes "_") then token.Sign Any else word_token (word_of text) text
+name_token text =
+    if bytes_eq text (codes "_") then token.Sign Any else word_token (word_of text) text
 
 abbrev pub name_piece : List ℕ → Piece
 name_piece text = record { token = name_token text; width = length text }
@@ -124,7 +133,10 @@ digits_piece digits = record { token = token.Int (literal digits); width = lengt
 -- a literal is `0` or has no zero first
 abbrev pub literal_piece : List ℕ → Piece
 literal_piece [] = digits_piece []
-literal_piece (d ∷ digits) = if nat_eq d 0x30 then record { token = token.Int (Value 0); width = 1 } else digits_piece (d ∷ digits)
+literal_piece (d ∷ digits) =
+    if nat_eq d 0x30
+    then record { token = token.Int (Value 0); width = 1 }
+    else digits_piece (d ∷ digits)
 
 abbrev pub lone_piece : Option Sign → Piece
 lone_piece (Some sign) = record { token = token.Sign sign; width = 1 }
@@ -137,7 +149,8 @@ longer_piece None b = lone_piece (sign_of b)
 -- the longer sign first
 abbrev pub sign_piece : ℕ → List ℕ → Piece
 sign_piece b [] = lone_piece (sign_of b)
-sign_piece b (c ∷ rest) = if nat_eq c 0x3D then longer_piece (sign_with_equals b) b else lone_piece (sign_of b)
+sign_piece b (c ∷ rest) =
+    if nat_eq c 0x3D then longer_piece (sign_with_equals b) b else lone_piece (sign_of b)
 
 -- the piece that begins with the first byte, which is no blank and no `#`
 abbrev pub piece_of : List ℕ → Piece

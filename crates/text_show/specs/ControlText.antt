@@ -1,8 +1,11 @@
 -- The text of expressions over control values.
 use Rattle.std.specs.Prelude.{ℕ, List, ◌++◌, map, codes, decimal}
 use Rattle.std.specs.Fmt.{signed_decimal}
-use Rattle.exo_tree.specs.Tree.{Control, Lit, Var, Field, StrideOf, Neg, Add, Sub, Mul, Div, Mod, Condition, True, False, Flag, FieldFlag, Lt, Le, Gt, Ge, Eq, And, Or, Coord, At, Span}
-use Rattle.text_show.specs.declared.precedence.TheConstants.{DISJUNCTION, CONJUNCTION, COMPARISON, SUM, PRODUCT, UNARY}
+use Rattle.exo_tree.specs.Tree.{Control, Lit, Var, Field, StrideOf, Neg, Add, Sub, Mul, Div, Mod}
+use Rattle.exo_tree.specs.Tree.{Condition, True, False, Flag, FieldFlag, Lt, Le, Gt, Ge, Eq, And}
+use Rattle.exo_tree.specs.Tree.{Or, Coord, At, Span}
+use Rattle.text_show.specs.declared.precedence.TheConstants.{DISJUNCTION, CONJUNCTION, COMPARISON}
+use Rattle.text_show.specs.declared.precedence.TheConstants.{SUM, PRODUCT, UNARY}
 use Rattle.text_show.specs.Layout.{Text, bracketed, operand, between}
 use Rattle.text_show.specs.Words.{Words}
 
@@ -19,18 +22,24 @@ abbrev pub in_place : ℕ → Control → Text → Text
 in_place place e t = operand place (precedence_of e) t
 
 module _ (w : Words) where
-  -- sums and products go on from the left, so a right operand of the same precedence has parentheses
+  -- sums and products go on from the left, so a right operand of the same precedence has
+  -- parentheses
   abbrev pub control_text : Control → Text
   control_text (Lit n) = signed_decimal n
   control_text (Var x) = w.name x
   control_text (Field f) = w.field f
   control_text (StrideOf x k) = codes "stride(" ++ w.name x ++ codes ", " ++ decimal k ++ codes ")"
   control_text (Neg a) = codes "-" ++ in_place UNARY a (control_text a)
-  control_text (Add a b) = between (in_place SUM a (control_text a)) (codes "+") (in_place PRODUCT b (control_text b))
-  control_text (Sub a b) = between (in_place SUM a (control_text a)) (codes "-") (in_place PRODUCT b (control_text b))
-  control_text (Mul a b) = between (in_place PRODUCT a (control_text a)) (codes "*") (in_place UNARY b (control_text b))
-  control_text (Div a n) = between (in_place PRODUCT a (control_text a)) (codes "/") (signed_decimal n)
-  control_text (Mod a n) = between (in_place PRODUCT a (control_text a)) (codes "%") (signed_decimal n)
+  control_text (Add a b) =
+      between (in_place SUM a (control_text a)) (codes "+") (in_place PRODUCT b (control_text b))
+  control_text (Sub a b) =
+      between (in_place SUM a (control_text a)) (codes "-") (in_place PRODUCT b (control_text b))
+  control_text (Mul a b) =
+      between (in_place PRODUCT a (control_text a)) (codes "*") (in_place UNARY b (control_text b))
+  control_text (Div a n) =
+      between (in_place PRODUCT a (control_text a)) (codes "/") (signed_decimal n)
+  control_text (Mod a n) =
+      between (in_place PRODUCT a (control_text a)) (codes "%") (signed_decimal n)
 
   abbrev pub coord_text : Coord → Text
   coord_text (At a) = control_text a
@@ -71,5 +80,11 @@ module _ (w : Words) where
   condition_text (Gt a b) = between (control_text w a) (codes ">") (control_text w b)
   condition_text (Ge a b) = between (control_text w a) (codes ">=") (control_text w b)
   condition_text (Eq a b) = between (control_text w a) (codes "==") (control_text w b)
-  condition_text (And a b) = between (condition_in_place CONJUNCTION a (condition_text a)) (codes "and") (condition_in_place COMPARISON b (condition_text b))
-  condition_text (Or a b) = between (condition_in_place DISJUNCTION a (condition_text a)) (codes "or") (condition_in_place CONJUNCTION b (condition_text b))
+  condition_text (And a b) =
+      between (condition_in_place CONJUNCTION a (condition_text a))
+      (codes "and")
+      (condition_in_place COMPARISON b (condition_text b))
+  condition_text (Or a b) =
+      between (condition_in_place DISJUNCTION a (condition_text a))
+      (codes "or")
+      (condition_in_place CONJUNCTION b (condition_text b))

@@ -1,6 +1,7 @@
 -- What the binders of a procedure call their ids.
 use Rattle.std.specs.Prelude.{ℕ, ◌==◌, List, [], ◌∷◌, ◌++◌, if◌then◌else◌, codes, decimal}
-use Rattle.exo_tree.specs.Tree.{Binder, Statement, Assign, Reduce, Config, Pass, If, For, Alloc, View, Call, Block, end, next, Param, Procedure}
+use Rattle.exo_tree.specs.Tree.{Binder, Statement, Assign, Reduce, Config, Pass, If, For, Alloc}
+use Rattle.exo_tree.specs.Tree.{View, Call, Block, end, next, Param, Procedure}
 use Rattle.text_show.specs.Layout.{Text}
 
 -- a number that names nothing, as no text of the language spells it

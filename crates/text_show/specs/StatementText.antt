@@ -1,9 +1,12 @@
 -- The text of statements and blocks.
 use Rattle.std.specs.Prelude.{ℕ, List, [], ◌++◌, ◌==◌, map, if◌then◌else◌, codes}
-use Rattle.exo_tree.specs.Tree.{Control, Argument, ControlArg, ConditionArg, Whole, Window, Statement, Assign, Reduce, Config, Pass, If, For, Alloc, View, Call, Block, end, next}
+use Rattle.exo_tree.specs.Tree.{Control, Argument, ControlArg, ConditionArg, Whole, Window}
+use Rattle.exo_tree.specs.Tree.{Statement, Assign, Reduce, Config, Pass, If, For, Alloc, View, Call}
+use Rattle.exo_tree.specs.Tree.{Block, end, next}
 use Rattle.text_show.specs.Layout.{Text, listed, line, deeper, between, loop_text}
 use Rattle.text_show.specs.Words.{Words, cell_word}
-use Rattle.text_show.specs.ControlText.{control_text, condition_text, indices_text, access_text, window_text}
+use Rattle.text_show.specs.ControlText.{control_text, condition_text, indices_text, access_text}
+use Rattle.text_show.specs.ControlText.{window_text}
 use Rattle.text_show.specs.DatumText.{datum_text}
 
 -- what follows the first branch: nothing where there is no second
@@ -34,7 +37,8 @@ module _ (w : Words) where
   head_text Pass = codes "pass"
   head_text (If c a b) = codes "if " ++ condition_text w c ++ codes ":"
   head_text (For i lo hi b) = loop_text i.name (control_text w lo) (control_text w hi)
-  head_text (Alloc x cell dims memory) = between x.name (codes ":") (cell_word cell ++ extent_text dims memory)
+  head_text (Alloc x cell dims memory) =
+      between x.name (codes ":") (cell_word cell ++ extent_text dims memory)
   head_text (View v x coords) = between v.name (codes "=") (window_text w x coords)
   head_text (Call k args) = w.callee k ++ codes "(" ++ listed (map argument_text args) ++ codes ")"
 
@@ -42,10 +46,12 @@ module _ (w : Words) where
     -- the lines of a block behind an indentation
     pub block_text : Text → Block → Text
     block_text indent end = []
-    block_text indent (next a b) = line indent (head_text a) ++ inner_text indent a ++ block_text indent b
+    block_text indent (next a b) =
+        line indent (head_text a) ++ inner_text indent a ++ block_text indent b
 
     -- the lines of a statement after its first
     pub inner_text : Text → Statement → Text
-    inner_text indent (If c a b) = block_text (deeper indent) a ++ or_else indent b (block_text (deeper indent) b)
+    inner_text indent (If c a b) =
+        block_text (deeper indent) a ++ or_else indent b (block_text (deeper indent) b)
     inner_text indent (For i lo hi b) = block_text (deeper indent) b
     inner_text indent _ = []

@@ -1,6 +1,7 @@
 -- What the numbers in a tree are called.
 use Rattle.std.specs.Prelude.{ℕ, List, Option, Some, None, ◌++◌, slice_get, codes}
-use Rattle.exo_tree.specs.Tree.{Cell, I8, I16, I32, Ui8, Kind, Size, Index, Truth, Stride, ConfigField, MemoryKind, Procedure, Program}
+use Rattle.exo_tree.specs.Tree.{Cell, I8, I16, I32, Ui8, Kind, Size, Index, Truth, Stride}
+use Rattle.exo_tree.specs.Tree.{ConfigField, MemoryKind, Procedure, Program}
 use Rattle.text_show.specs.Layout.{Text}
 use Rattle.text_show.specs.Names.{unknown, names_of}
 
@@ -16,7 +17,8 @@ or_unknown n (Some t) = t
 
 -- a field behind its configuration
 abbrev pub field_name : List ConfigField → ℕ → Text
-field_name fields f = elim (slice_get fields f) [ None ↦ unknown f | Some x ↦ x.config ++ codes "." ++ x.name ]
+field_name fields f =
+    elim (slice_get fields f) [ None ↦ unknown f | Some x ↦ x.config ++ codes "." ++ x.name ]
 
 abbrev pub memory_name : List MemoryKind → ℕ → Text
 memory_name memories m = elim (slice_get memories m) [ None ↦ unknown m | Some x ↦ x.name ]
@@ -26,7 +28,12 @@ callee_name procedures k = elim (slice_get procedures k) [ None ↦ unknown k | 
 
 -- the names of a program's tables, and those of binders
 abbrev pub words_with : Program → (ℕ → Text) → Words
-words_with program names = record { name = names; field = field_name program.fields; memory = memory_name program.memories; callee = callee_name program.procedures }
+words_with program names = record {
+  name = names;
+  field = field_name program.fields;
+  memory = memory_name program.memories;
+  callee = callee_name program.procedures;
+}
 
 -- the words of a procedure of a program
 abbrev pub words_of : Program → Procedure → Words

@@ -26,26 +26,56 @@ line_tokens_of text = map token_of (line_lexed text)
 
 -- the text of an expression is what its source tree spells
 abbrev pub ControlsAreSpelled : Type 0
-ControlsAreSpelled = (program : Program) (names : ℕ → Text) (e : Control) → IsControl program names e → line_tokens_of (control_text (words_with program names) e) ≡ spelling (control_tree (words_with program names) program.fields e)
+ControlsAreSpelled =
+    (program : Program) (names : ℕ → Text) (e : Control)
+    → IsControl program names e
+    → line_tokens_of (control_text (words_with program names) e)
+    ≡ spelling (control_tree (words_with program names) program.fields e)
 
 abbrev pub ConditionsAreSpelled : Type 0
-ConditionsAreSpelled = (program : Program) (names : ℕ → Text) (c : Condition) → IsCondition program names c → line_tokens_of (condition_text (words_with program names) c) ≡ spelling (condition_tree (words_with program names) program.fields c)
+ConditionsAreSpelled =
+    (program : Program) (names : ℕ → Text) (c : Condition)
+    → IsCondition program names c
+    → line_tokens_of (condition_text (words_with program names) c)
+    ≡ spelling (condition_tree (words_with program names) program.fields c)
 
 abbrev pub DataAreSpelled : Type 0
-DataAreSpelled = (program : Program) (names : ℕ → Text) (e : Datum) → IsDatum program names e → line_tokens_of (datum_text (words_with program names) e) ≡ spelling (datum_tree (words_with program names) program.fields e)
+DataAreSpelled =
+    (program : Program) (names : ℕ → Text) (e : Datum)
+    → IsDatum program names e
+    → line_tokens_of (datum_text (words_with program names) e)
+    ≡ spelling (datum_tree (words_with program names) program.fields e)
 
 -- the shown text of a procedure of a program is what its source tree spells
 abbrev pub ProceduresAreSpelled : Type 0
-ProceduresAreSpelled = (program : Program) (k : ℕ) (p : Procedure) → slice_get program.procedures k ≡ Some p → IsWritable program p → tokens_of (shown program k) ≡ item.spell (written program p)
+ProceduresAreSpelled =
+    (program : Program) (k : ℕ) (p : Procedure)
+    → slice_get program.procedures k ≡ Some p
+    → IsWritable program p
+    → tokens_of (shown program k) ≡ item.spell (written program p)
 
 -- the source tree of the procedure alone is read, but for want of memory
 abbrev pub ReadsBack : Program → Procedure → Result Source ReadError → Type 0
-ReadsBack program p result = MatchResult result (λ s. map plain_item s.items.items ≡ written program p ∷ []) (λ e. e.kind ≡ Memory)
+ReadsBack program p result =
+    MatchResult result (λ s. map plain_item s.items.items ≡ written program p ∷ [])
+    (λ e. e.kind ≡ Memory)
 
 -- the source tree of a procedure within the limits is of the grammar
 abbrev pub WrittenFits : Type 0
-WrittenFits = (program : Program) (p : Procedure) → IsWritable program p → IsWithinItem (written program p) → (limits : Limits) → item.Fits limits (written program p)
+WrittenFits =
+    (program : Program) (p : Procedure)
+    → IsWritable program p
+    → IsWithinItem (written program p)
+    → (limits : Limits)
+    → item.Fits limits (written program p)
 
 -- whoever reads the shown text of such a procedure reads that tree
 abbrev pub ShownIsRead : Type 0
-ShownIsRead = (program : Program) (k : ℕ) (p : Procedure) → slice_get program.procedures k ≡ Some p → IsWritable program p → IsWithinItem (written program p) → (result : Result Source ReadError) → ReadsUnit (shown program k) result → ReadsBack program p result
+ShownIsRead =
+    (program : Program) (k : ℕ) (p : Procedure)
+    → slice_get program.procedures k ≡ Some p
+    → IsWritable program p
+    → IsWithinItem (written program p)
+    → (result : Result Source ReadError)
+    → ReadsUnit (shown program k) result
+    → ReadsBack program p result

@@ -1,9 +1,13 @@
 -- The limits of the grammar that a written procedure keeps where each counts.
 use Rattle.std.specs.Prelude.{ℕ, ◌+◌, ◌≤◌, ◌<◌, List, [], ◌∷◌, length, Option, Some, None}
 use Rattle.text_expressions.specs.Values.{IsShortName}
-use Rattle.text_expressions.specs.Expression.{Tree, depth, nodes, IsShort, control_room, data_room, most_depth, FewDimensions}
+use Rattle.text_expressions.specs.Expression.{Tree, depth, nodes, IsShort, control_room, data_room}
+use Rattle.text_expressions.specs.Expression.{most_depth, FewDimensions}
 use Rattle.text_expressions.specs.declared.expression.Room.{Room}
-use Rattle.exo_reader.specs.Source.{Coordinate, point, span, Argument, value, window, Statement, pass, branch, loop, allocate, call, configure, assign, reduce, view, Block, end, next, block_of, Form, plain, strided, Parameter, Definition, Item, procedure, instruction}
+use Rattle.exo_reader.specs.Source.{Coordinate, point, span, Argument, value, window, Statement}
+use Rattle.exo_reader.specs.Source.{pass, branch, loop, allocate, call, configure, assign, reduce}
+use Rattle.exo_reader.specs.Source.{view, Block, end, next, block_of, Form, plain, strided}
+use Rattle.exo_reader.specs.Source.{Parameter, Definition, Item, procedure, instruction}
 use Rattle.text_show_laws.specs.Names.{Each}
 
 -- neither deeper nor of more nodes than the room, with short names and lists
@@ -37,9 +41,19 @@ IsShortMemory (Some x) = IsShortName x
 abbrev mutual
   pub IsWithinStatement : ℕ → Statement → Type 0
   IsWithinStatement nesting pass = Unit {0}
-  IsWithinStatement nesting (branch c a b) = (nesting < 24) × IsWithinControl c × IsWithinBlock (nesting + 1) a × IsWithinBlock (nesting + 1) b
-  IsWithinStatement nesting (loop i low high a) = (nesting < 24) × IsShortName i × IsWithinControl low × IsWithinControl high × IsWithinBlock (nesting + 1) a
-  IsWithinStatement nesting (allocate x kind ds m) = IsShortName x × IsWithinDims ds × IsShortMemory m
+  IsWithinStatement nesting (branch c a b) =
+      (nesting < 24)
+      × IsWithinControl c
+      × IsWithinBlock (nesting + 1) a
+      × IsWithinBlock (nesting + 1) b
+  IsWithinStatement nesting (loop i low high a) =
+      (nesting < 24)
+      × IsShortName i
+      × IsWithinControl low
+      × IsWithinControl high
+      × IsWithinBlock (nesting + 1) a
+  IsWithinStatement nesting (allocate x kind ds m) =
+      IsShortName x × IsWithinDims ds × IsShortMemory m
   IsWithinStatement nesting (call f list trailing) = IsShortName f × Each IsWithinArgument list
   IsWithinStatement nesting (configure c f e) = IsShortName c × IsShortName f × IsWithinControl e
   IsWithinStatement nesting (assign x ds e) = IsShortName x × IsWithinDims ds × IsWithin data_room e

@@ -1,7 +1,14 @@
 -- What a procedure keeps so that its shown text can be read.
-use Rattle.std.specs.Prelude.{◌≡◌, ◌⊎◌, ℕ, ◌<◌, ℤ, pos, negsuc, true, false, ◌==◌, List, [], ◌∷◌, Option, Some, None, slice_get}
+use Rattle.std.specs.Prelude.{◌≡◌, ◌⊎◌, ℕ, ◌<◌, ℤ, pos, negsuc, true, false, ◌==◌, List, [], ◌∷◌}
+use Rattle.std.specs.Prelude.{Option, Some, None, slice_get}
 use Rattle.exo_tree.specs.Tree as tree
-use Rattle.exo_tree.specs.Tree.{Control, Lit, Var, Field, StrideOf, Neg, Add, Sub, Mul, Div, Mod, Condition, Flag, FieldFlag, Lt, Le, Gt, Ge, Eq, And, Or, Datum, Const, Read, Negated, Relu, Plus, Minus, Times, Select, Coord, At, Span, Argument, ControlArg, ConditionArg, Whole, Window, Statement, Assign, Reduce, Config, Pass, If, For, Alloc, View, Call, Block, end, next, ParamKind, ControlParam, TensorParam, WindowParam, Param, ConfigField, Procedure, Program}
+use Rattle.exo_tree.specs.Tree.{Control, Lit, Var, Field, StrideOf, Neg, Add, Sub, Mul, Div, Mod}
+use Rattle.exo_tree.specs.Tree.{Condition, Flag, FieldFlag, Lt, Le, Gt, Ge, Eq, And, Or, Datum}
+use Rattle.exo_tree.specs.Tree.{Const, Read, Negated, Relu, Plus, Minus, Times, Select, Coord, At}
+use Rattle.exo_tree.specs.Tree.{Span, Argument, ControlArg, ConditionArg, Whole, Window, Statement}
+use Rattle.exo_tree.specs.Tree.{Assign, Reduce, Config, Pass, If, For, Alloc, View, Call, Block}
+use Rattle.exo_tree.specs.Tree.{end, next, ParamKind, ControlParam, TensorParam, WindowParam, Param}
+use Rattle.exo_tree.specs.Tree.{ConfigField, Procedure, Program}
 use Rattle.text_lexer.specs.Bytes.{is_printable}
 use Rattle.text_show.specs.Layout.{Text}
 use Rattle.text_show.specs.Names.{names_of}
@@ -106,7 +113,8 @@ module _ (program : Program) (names : ℕ → Text) where
     IsStatement (If c a b) = IsCondition c × IsSome a × IsBlock a × IsBlock b
     IsStatement (For i lo hi b) = IsName i.name × IsControl lo × IsControl hi × IsSome b × IsBlock b
     IsStatement (Alloc x cell dims memory) = IsName x.name × Each IsControl dims × IsMemory memory
-    IsStatement (View v x coords) = IsName v.name × IsBound x × Each IsCoord coords × (has_span coords ≡ true)
+    IsStatement (View v x coords) =
+        IsName v.name × IsBound x × Each IsCoord coords × (has_span coords ≡ true)
     IsStatement (Call k args) = IsName (callee_name program.procedures k) × Each IsArgument args
 
     pub IsBlock : Block → Type 0

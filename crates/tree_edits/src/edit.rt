@@ -1,7 +1,9 @@
 //! What stands at a place, and bodies with other statements there. Statements that stay are shared
 //! with the body before.
-ghost use Rattle.std.specs.Prelude.{◌≡◌, ◌++◌, ◌+◌, ◌-◌, ◌<◌, ◌≤◌, ◌==◌, ◌&&◌, length, map, take, drop};
-ghost use Rattle.std.specs.Prelude.{slice_get, slice_range, option_map, option_and_then, Some, None};
+ghost use Rattle.std.specs.Prelude.{◌≡◌, ◌++◌, ◌+◌, ◌-◌, ◌<◌, ◌≤◌, ◌==◌, ◌&&◌, length, map, take};
+ghost use Rattle.std.specs.Prelude.{drop};
+ghost use Rattle.std.specs.Prelude.{slice_get, slice_range, option_map, option_and_then, Some};
+ghost use Rattle.std.specs.Prelude.{None};
 ghost use Rattle.std.specs.Prelude.{IfOk, IfSome, OnOk, MatchOption};
 ghost use Rattle.std.specs.Option.{option_copied};
 ghost use Rattle.exo_tree.specs.Tree as tree;
@@ -23,9 +25,11 @@ use std::alloc::{AllocError, Global};
 use std::marker::Brand;
 use std::sync::ledger::{Blank, Ledger};
 
-/// Whether `count` statements from a path on are all of their block; None exactly where they are not there.
+/// Whether `count` statements from a path on are all of their block; None exactly where they are
+/// not there.
 pub fn alone_at(body: &Block, path: &Path, count: u32) -> Option<bool>
-    ensures { result ≡ option_map (λ o. is_alone o.around) (opened count path.now (block body.now)) }
+    ensures { result ≡ option_map (λ o. is_alone o.around)
+        (opened count path.now (block body.now)) }
 {
     let steps = path.as_slice();
     match steps.first() {
@@ -36,7 +40,8 @@ pub fn alone_at(body: &Block, path: &Path, count: u32) -> Option<bool>
 
 /// The same within a block.
 fn alone_in(b: &Block, path: &[Step], count: usize) -> Option<bool>
-    ensures { result ≡ option_map (λ o. is_alone o.around) (opened_in count (map step_taken path.now) (block b.now)) }
+    ensures { result ≡ option_map (λ o. is_alone o.around)
+        (opened_in count (map step_taken path.now) (block b.now)) }
 {
     let (step, rest) = path.split_first()?;
     let index = step.index as usize;
@@ -48,7 +53,8 @@ fn alone_in(b: &Block, path: &[Step], count: usize) -> Option<bool>
 
 /// The same of statements of the block itself.
 fn alone_here(b: &Block, index: usize, count: usize) -> Option<bool>
-    ensures { MatchOption result (length b.now < index + count) (λ alone. (index + count ≤ length b.now) × (alone ≡ (index == 0) && (count == length b.now))) }
+    ensures { MatchOption result (length b.now < index + count) (λ alone.
+        (index + count ≤ length b.now) × (alone ≡ (index == 0) && (count == length b.now))) }
 {
     if index > b.len() || count > b.len() - index {
         return None;
@@ -58,14 +64,17 @@ fn alone_here(b: &Block, index: usize, count: usize) -> Option<bool>
 
 /// The block of a branch of the statement at an index, where there is one.
 fn inner(b: &Block, index: usize, which: Branch) -> Option<&Block>
-    ensures { option_map block (option_copied result) ≡ option_and_then (branch_of (branch_taken which)) (slice_get b.now index) }
+    ensures { option_map block (option_copied result)
+        ≡ option_and_then (branch_of (branch_taken which)) (slice_get b.now index) }
 {
     b.get(index)?.block(which)
 }
 
-/// Copies of the `count` statements of a block from `index` on; None exactly where they are not there.
+/// Copies of the `count` statements of a block from `index` on; None exactly where they are not
+/// there.
 fn taken(alloc: Global, b: &Block, index: usize, count: usize) -> Result<Option<Block>, AllocError>
-    ensures { IfOk result (λ x. MatchOption x (length b.now < index + count) (λ ts. (index + count ≤ length b.now) × (ts ≡ slice_range b.now index (index + count)))) }
+    ensures { IfOk result (λ x. MatchOption x (length b.now < index + count)
+        (λ ts. (index + count ≤ length b.now) × (ts ≡ slice_range b.now index (index + count)))) }
 {
     if index > b.len() || count > b.len() - index {
         return Ok(None);
@@ -80,7 +89,8 @@ fn piece_in(
     path: &[Step],
     count: usize,
 ) -> Result<Option<Block>, AllocError>
-    ensures { IfOk result (λ x. option_map block x ≡ option_map (λ o. o.piece) (opened_in count (map step_taken path.now) (block b.now))) }
+    ensures { IfOk result (λ x. option_map block x
+        ≡ option_map (λ o. o.piece) (opened_in count (map step_taken path.now) (block b.now))) }
 {
     let (step, rest) = match path.split_first() {
         None => return Ok(None),
@@ -97,14 +107,16 @@ fn piece_in(
     }
 }
 
-/// Copies of the `count` statements of a body from a path on; None exactly where they are not there.
+/// Copies of the `count` statements of a body from a path on; None exactly where they are not
+/// there.
 pub fn piece_at(
     alloc: Global,
     body: &Block,
     path: &Path,
     count: u32,
 ) -> Result<Option<Block>, AllocError>
-    ensures { IfOk result (λ x. option_map block x ≡ option_map (λ o. o.piece) (opened count path.now (block body.now))) }
+    ensures { IfOk result (λ x.
+        option_map block x ≡ option_map (λ o. o.piece) (opened count path.now (block body.now))) }
 {
     let steps = path.as_slice();
     match steps.first() {
@@ -142,7 +154,8 @@ fn same<L: Ledger>(alloc: Global, b: &Block, made: &mut Steps<L>) -> Result<Bloc
 
 /// A loop with a copied head.
 fn loop_of(alloc: Global, b: &Binder, lo: &Ctrl, hi: &Ctrl, body: Block) -> Result<Stmt, AllocError>
-    ensures { IfOk result (λ s. statement s ≡ tree.For (binding b.now) (control lo.now) (control hi.now) (block body)) }
+    ensures { IfOk result (λ s.
+        statement s ≡ tree.For (binding b.now) (control lo.now) (control hi.now) (block body)) }
 {
     let binder = b.duplicate(alloc)?;
     let low = lo.duplicate(alloc)?;
@@ -156,7 +169,8 @@ fn branch_of(
     then_part: Block,
     else_part: Block,
 ) -> Result<Stmt, AllocError>
-    ensures { IfOk result (λ s. statement s ≡ tree.If (condition c.now) (block then_part) (block else_part)) }
+    ensures { IfOk result
+        (λ s. statement s ≡ tree.If (condition c.now) (block then_part) (block else_part)) }
 {
     Ok(Stmt::If(c.duplicate(alloc)?, then_part, else_part))
 }
@@ -214,7 +228,8 @@ fn with_one<L: Ledger>(
     Ok(all)
 }
 
-/// The block with `with` in place of the `count` statements from `index` on; None exactly where they are not there.
+/// The block with `with` in place of the `count` statements from `index` on; None exactly where
+/// they are not there.
 fn spliced<L: Ledger>(
     alloc: Global,
     b: &Block,
@@ -240,7 +255,8 @@ fn spliced<L: Ledger>(
     Ok(Some(all))
 }
 
-/// The block with `with` in place of the `count` statements from a path on; None exactly where they are not there.
+/// The block with `with` in place of the `count` statements from a path on; None exactly where they
+/// are not there.
 fn replaced_in<L: Ledger>(
     alloc: Global,
     b: &Block,
@@ -282,8 +298,8 @@ fn replaced_in<L: Ledger>(
     Ok(Some(with_one(alloc, b, index, one, made)?))
 }
 
-/// A body with `with` in place of the `count` statements from a path on; None exactly where they are
-/// not there. It counts the entries that it writes into new blocks.
+/// A body with `with` in place of the `count` statements from a path on; None exactly where they
+/// are not there. It counts the entries that it writes into new blocks.
 pub(crate) fn replaced_counted<L: Ledger>(
     alloc: Global,
     body: &Block,
@@ -331,7 +347,8 @@ fn replaced_from<L: Ledger>(
     replaced_counted(alloc, body, path, count, with, &mut made)
 }
 
-/// A body with `with` in place of the `count` statements from a path on; None exactly where they are not there.
+/// A body with `with` in place of the `count` statements from a path on; None exactly where they
+/// are not there.
 pub fn replaced(
     alloc: Global,
     body: &Block,
@@ -339,7 +356,8 @@ pub fn replaced(
     count: u32,
     with: &Block,
 ) -> Result<Option<Block>, AllocError>
-    ensures { IfOk result (λ x. option_map block x ≡ places.replaced count path.now (block body.now) (block with.now)) }
+    ensures { IfOk result (λ x.
+        option_map block x ≡ places.replaced count path.now (block body.now) (block with.now)) }
 {
     replaced_from::<Brand>(alloc, body, path, count, with, Blank::new(1))
 }

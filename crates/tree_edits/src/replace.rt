@@ -49,7 +49,8 @@ pub fn fits(b: &Block, room: u32) -> bool
     true
 }
 
-/// Whether no path to this statement or to one below it has more than `room` steps from the block that it stands in.
+/// Whether no path to this statement or to one below it has more than `room` steps from the block
+/// that it stands in.
 #[cycle(fits)]
 fn statement_fits(s: &Stmt, room: u32) -> bool
     ensures { IsTrue result ↔ (1 + height_below (statement s.now) ≤ room) }
@@ -65,8 +66,8 @@ fn statement_fits(s: &Stmt, room: u32) -> bool
 }
 
 /// The procedure with `with` in place of the `count` statements from a path on, and all else the
-/// same. It counts the entries that it writes into new blocks: none of a statement that stays and is
-/// not on the way.
+/// same. It counts the entries that it writes into new blocks: none of a statement that stays and
+/// is not on the way.
 pub fn replace_counted<L: Ledger>(
     alloc: Global,
     p: &Proc,
@@ -127,7 +128,8 @@ fn replaced_from<L: Ledger>(
     replace_counted(alloc, p, path, count, with, &mut made)
 }
 
-/// The procedure with `with` in place of the `count` statements from a path on, and all else the same.
+/// The procedure with `with` in place of the `count` statements from a path on, and all else the
+/// same.
 pub fn replace_at(
     alloc: Global,
     p: &Proc,
@@ -136,11 +138,16 @@ pub fn replace_at(
     with: &Block,
 ) -> Result<Proc, EditError>
     requires { height (block p.now.body) ≤ 32 }
-    ensures replaced { IfOk result (λ q. replaced count path.now (block p.now.body) (block with.now) ≡ Some (block q.body)) }
-    ensures kept { IfOk result (λ q. procedure q ≡ record (procedure p.now) { body = block q.body }) }
+    ensures replaced { IfOk result
+        (λ q. replaced count path.now (block p.now.body) (block with.now) ≡ Some (block q.body)) }
+    ensures kept { IfOk result
+        (λ q. procedure q ≡ record (procedure p.now) { body = block q.body }) }
     ensures fits { IfOk result (λ q. height (block q.body) ≤ 32) }
-    ensures no_place { IsErrOf result EditError.NoPlace → replaced count path.now (block p.now.body) (block with.now) ≡ None }
-    ensures too_deep { IsErrOf result EditError.TooDeep → IsSomeAnd (replaced count path.now (block p.now.body) (block with.now)) (λ b. 32 < height b) }
+    ensures no_place { IsErrOf result EditError.NoPlace
+        → replaced count path.now (block p.now.body) (block with.now) ≡ None }
+    ensures too_deep { IsErrOf result EditError.TooDeep
+        → IsSomeAnd (replaced count path.now (block p.now.body) (block with.now))
+        (λ b. 32 < height b) }
 {
     replaced_from::<Brand>(alloc, p, path, count, with, Blank::new(1))
 }
