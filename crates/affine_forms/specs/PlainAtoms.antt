@@ -9,7 +9,7 @@ use Rattle.affine_forms.specs.declared.atom.Weighed.{Weighed}
 abbrev pub plain_atom : Atom → plain.Atom
 plain_atom (Variable x) = plain.Variable x.0
 plain_atom (EntryField f kind) = plain.EntryField f.0 (control_kind kind)
-plain_atom (UnknownField f kind path) = plain.UnknownField f.0 (control_kind kind) path
+plain_atom (UnknownField f kind path) = plain.UnknownField f.0 (control_kind kind) path.value
 plain_atom (OpaqueStride x k) = plain.OpaqueStride x.0 k
 plain_atom (Quotient q) = plain.Quotient q.constant q.terms q.by
 

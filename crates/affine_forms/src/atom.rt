@@ -20,6 +20,7 @@ use crate::quotient::Quotient;
 use exo_tree::{Branch, FieldId, Id, Kind, Path, Step};
 use std::alloc::{AllocError, Global};
 use std::marker::Model;
+use std::sync::Arc;
 
 /// What a control value is built of: a part of an expression that is kept as it is.
 #[derive(Drop)]
@@ -29,7 +30,7 @@ pub enum Atom {
     /// The value that a configuration field of that kind has where the procedure begins.
     EntryField(FieldId, Kind),
     /// The value of a field of that kind after the statement at that path, which made it unknown.
-    UnknownField(FieldId, Kind, Path),
+    UnknownField(FieldId, Kind, Arc<Path>),
     /// The stride of a dimension of a buffer, where it is no affine form.
     OpaqueStride(Id, u32),
     /// The quotient of a constant and a sum by a literal of at least 1, rounded down.
@@ -362,11 +363,10 @@ impl Atom {
         match self {
             Atom::Variable(x) => Ok(Atom::Variable(*x)),
             Atom::EntryField(f, kind) => Ok(Atom::EntryField(*f, *kind)),
-            Atom::UnknownField(f, kind, path) => Ok(Atom::UnknownField(
-                *f,
-                *kind,
-                path.duplicate(),
-            )),
+            Atom::UnknownField(f, kind, path) => {
+                let shared = path.clone()?;
+                Ok(Atom::UnknownField(*f, *kind, shared))
+            }
             Atom::OpaqueStride(x, k) => Ok(Atom::OpaqueStride(*x, *k)),
             Atom::Quotient(q) => Ok(Atom::Quotient(q.duplicate()?)),
         }
@@ -379,7 +379,7 @@ impl Atom {
         match self {
             Atom::Variable(x) => Ok(is_variable(other, *x)),
             Atom::EntryField(f, kind) => Ok(is_entry(other, *f, *kind)),
-            Atom::UnknownField(f, kind, path) => Ok(is_unknown(other, *f, *kind, path)),
+            Atom::UnknownField(f, kind, path) => Ok(is_unknown(other, *f, *kind, path.as_ref())),
             Atom::OpaqueStride(x, k) => Ok(is_stride(other, *x, *k)),
             Atom::Quotient(q) => match other {
                 Atom::Quotient(p) => q.same(alloc, p),
@@ -393,7 +393,7 @@ impl Atom {
 }
 
 /// Whether an atom is that variable.
-pub(crate) fn is_variable(a: &Atom, x: Id) -> bool
+fn is_variable(a: &Atom, x: Id) -> bool
     ensures { result ≡ same_atom (plain.Variable x.0) (plain_atom a.now) }
 {
     match a {
@@ -406,7 +406,7 @@ pub(crate) fn is_variable(a: &Atom, x: Id) -> bool
 }
 
 /// Whether an atom is that field at entry.
-pub(crate) fn is_entry(a: &Atom, f: FieldId, kind: Kind) -> bool
+fn is_entry(a: &Atom, f: FieldId, kind: Kind) -> bool
     ensures { result ≡ same_atom (plain.EntryField f.0 (control_kind kind)) (plain_atom a.now) }
 {
     match a {
@@ -419,21 +419,21 @@ pub(crate) fn is_entry(a: &Atom, f: FieldId, kind: Kind) -> bool
 }
 
 /// Whether an atom is that unknown field.
-pub(crate) fn is_unknown(a: &Atom, f: FieldId, kind: Kind, path: &Path) -> bool
+fn is_unknown(a: &Atom, f: FieldId, kind: Kind, path: &Path) -> bool
     ensures { result ≡ same_atom (plain.UnknownField f.0 (control_kind kind) path.now) (plain_atom a.now) }
 {
     match a {
         Atom::Variable(_) => false,
         Atom::EntryField(_, _) => false,
         Atom::UnknownField(g, other, at) => (f.0 == g.0 && is_same_kind(kind, *other))
-            && is_same_path(path.as_slice(), at.as_slice()),
+            && is_same_path(path.as_slice(), at.as_ref().as_slice()),
         Atom::OpaqueStride(_, _) => false,
         Atom::Quotient(_) => false,
     }
 }
 
 /// Whether an atom is that stride.
-pub(crate) fn is_stride(a: &Atom, x: Id, k: u32) -> bool
+fn is_stride(a: &Atom, x: Id, k: u32) -> bool
     ensures { result ≡ same_atom (plain.OpaqueStride x.0 k) (plain_atom a.now) }
 {
     match a {
@@ -445,7 +445,7 @@ pub(crate) fn is_stride(a: &Atom, x: Id, k: u32) -> bool
     }
 }
 
-fn is_same_kind(a: Kind, b: Kind) -> bool
+pub(crate) fn is_same_kind(a: Kind, b: Kind) -> bool
     ensures { result ≡ same_kind (control_kind a) (control_kind b) }
 {
     match a {

@@ -1,21 +1,23 @@
 //! Atoms that are no quotients, as the rows of a table hold them.
 ghost use Rattle.std.specs.Prelude.{◌≡◌, IfOk};
+ghost use Rattle.exo_tree.specs.PlainBinder.{control_kind};
+ghost use Rattle.affine_forms.specs.Atoms as plain;
 ghost use Rattle.affine_forms.specs.Atoms.{same_atom};
 ghost use Rattle.affine_forms.specs.Tables.{leaf_atom};
 ghost use Rattle.affine_forms.specs.PlainAtoms.{plain_atom};
 ghost use Rattle.affine_forms.specs.PlainTables.{plain_leaf};
 
-use crate::atom::{Atom, is_entry, is_stride, is_unknown, is_variable};
+use crate::atom::{Atom, is_same_kind, is_same_path};
 use exo_tree::{FieldId, Id, Kind, Path};
 use std::alloc::AllocError;
-use std::rc::Rc;
+use std::sync::Arc;
 
 /// An atom that is no quotient.
 #[derive(Drop)]
 pub(crate) enum Leaf {
     Variable(Id),
     EntryField(FieldId, Kind),
-    UnknownField(FieldId, Kind, Rc<Path>),
+    UnknownField(FieldId, Kind, Arc<Path>),
     OpaqueStride(Id, u32),
 }
 
@@ -35,17 +37,17 @@ impl Leaf {
     }
 
     /// The atom.
-    pub(crate) fn atom(&self) -> Atom
-        ensures { plain_atom result ≡ leaf_atom (plain_leaf self.now) }
+    pub(crate) fn atom(&self) -> Result<Atom, AllocError>
+        ensures { IfOk result (λ a. plain_atom a ≡ leaf_atom (plain_leaf self.now)) }
     {
         match self {
-            Leaf::Variable(x) => Atom::Variable(*x),
-            Leaf::EntryField(f, kind) => Atom::EntryField(*f, *kind),
+            Leaf::Variable(x) => Ok(Atom::Variable(*x)),
+            Leaf::EntryField(f, kind) => Ok(Atom::EntryField(*f, *kind)),
             Leaf::UnknownField(f, kind, path) => {
-                let path = path.as_ref();
-                Atom::UnknownField(*f, *kind, path.duplicate())
+                let shared = path.clone()?;
+                Ok(Atom::UnknownField(*f, *kind, shared))
             }
-            Leaf::OpaqueStride(x, k) => Atom::OpaqueStride(*x, *k),
+            Leaf::OpaqueStride(x, k) => Ok(Atom::OpaqueStride(*x, *k)),
         }
     }
 
@@ -54,12 +56,63 @@ impl Leaf {
         ensures { result
             ≡ same_atom (leaf_atom (plain_leaf self.now)) (leaf_atom (plain_leaf other.now)) }
     {
-        let other = other.atom();
         match self {
-            Leaf::Variable(x) => is_variable(&other, *x),
-            Leaf::EntryField(f, kind) => is_entry(&other, *f, *kind),
-            Leaf::UnknownField(f, kind, path) => is_unknown(&other, *f, *kind, path.as_ref()),
-            Leaf::OpaqueStride(x, k) => is_stride(&other, *x, *k),
+            Leaf::Variable(x) => other.is_variable(*x),
+            Leaf::EntryField(f, kind) => other.is_entry(*f, *kind),
+            Leaf::UnknownField(f, kind, path) => other.is_unknown(*f, *kind, path.as_ref()),
+            Leaf::OpaqueStride(x, k) => other.is_stride(*x, *k),
+        }
+    }
+
+    /// Whether a leaf is that variable.
+    fn is_variable(&self, x: Id) -> bool
+        ensures { result ≡ same_atom (plain.Variable x.0) (leaf_atom (plain_leaf self.now)) }
+    {
+        match self {
+            Leaf::Variable(y) => x.0 == y.0,
+            Leaf::EntryField(_, _) => false,
+            Leaf::UnknownField(_, _, _) => false,
+            Leaf::OpaqueStride(_, _) => false,
+        }
+    }
+
+    /// Whether a leaf is that field at entry.
+    fn is_entry(&self, f: FieldId, kind: Kind) -> bool
+        ensures { result
+            ≡ same_atom (plain.EntryField f.0 (control_kind kind)) (leaf_atom (plain_leaf self.now)) }
+    {
+        match self {
+            Leaf::Variable(_) => false,
+            Leaf::EntryField(g, other) => f.0 == g.0 && is_same_kind(kind, *other),
+            Leaf::UnknownField(_, _, _) => false,
+            Leaf::OpaqueStride(_, _) => false,
+        }
+    }
+
+    /// Whether a leaf is that unknown field.
+    fn is_unknown(&self, f: FieldId, kind: Kind, path: &Path) -> bool
+        ensures { result
+            ≡ same_atom (plain.UnknownField f.0 (control_kind kind) path.now)
+            (leaf_atom (plain_leaf self.now)) }
+    {
+        match self {
+            Leaf::Variable(_) => false,
+            Leaf::EntryField(_, _) => false,
+            Leaf::UnknownField(g, other, at) => (f.0 == g.0 && is_same_kind(kind, *other))
+                && is_same_path(path.as_slice(), at.as_ref().as_slice()),
+            Leaf::OpaqueStride(_, _) => false,
+        }
+    }
+
+    /// Whether a leaf is that stride.
+    fn is_stride(&self, x: Id, k: u32) -> bool
+        ensures { result ≡ same_atom (plain.OpaqueStride x.0 k) (leaf_atom (plain_leaf self.now)) }
+    {
+        match self {
+            Leaf::Variable(_) => false,
+            Leaf::EntryField(_, _) => false,
+            Leaf::UnknownField(_, _, _) => false,
+            Leaf::OpaqueStride(y, j) => x.0 == y.0 && k == *j,
         }
     }
 }

@@ -11,13 +11,13 @@ use crate::row::Part;
 use crate::table::Table;
 use std::alloc::{AllocError, Global};
 use std::marker::Model;
-use std::rc::Rc;
+use std::sync::Arc;
 
 /// The quotient of a constant and a sum by a literal of at least 1, rounded down.
 /// Equal quotients inside it stand once in the table that it shares with them.
 #[derive(Drop)]
 pub struct Quotient {
-    table: Rc<Table>,
+    table: Arc<Table>,
     index: usize,
 }
 
@@ -55,7 +55,7 @@ impl Quotient {
     {
         let mut table = Table::new(alloc);
         let index = table.divide(alloc, constant, terms, by)?;
-        let table = Rc::new(alloc, table)?;
+        let table = Arc::new(alloc, table)?;
         Ok(Quotient { table, index })
     }
 
@@ -114,12 +114,12 @@ impl Quotient {
 }
 
 /// The atom of a part of a row.
-fn atom(table: &Rc<Table>, part: &Part) -> Result<Atom, AllocError>
+fn atom(table: &Arc<Table>, part: &Part) -> Result<Atom, AllocError>
     requires { IsTrue (is_earlier (length table.now.value) (plain_part part.now)) }
     ensures { IfOk result (λ a. plain_atom a ≡ part_atom table.now.value (plain_part part.now)) }
 {
     match part {
-        Part::Whole(leaf) => Ok(leaf.atom()),
+        Part::Whole(leaf) => leaf.atom(),
         Part::Earlier(j) => {
             let table = table.clone()?;
             Ok(Atom::Quotient(Quotient { table, index: *j }))

@@ -12,7 +12,6 @@ use crate::leaf::Leaf;
 use crate::row::{Part, Row, Share, are_same, place_of};
 use std::alloc::{AllocError, Global};
 use std::marker::Model;
-use std::rc::Rc;
 
 /// Quotients, each over earlier ones. One that stands already, to the letter, is not put again.
 #[derive(Drop)]
@@ -98,7 +97,7 @@ impl Table {
             Atom::Variable(x) => Ok(Part::Whole(Leaf::Variable(*x))),
             Atom::EntryField(f, kind) => Ok(Part::Whole(Leaf::EntryField(*f, *kind))),
             Atom::UnknownField(f, kind, path) => {
-                let shared = Rc::new(alloc, path.duplicate())?;
+                let shared = path.clone()?;
                 Ok(Part::Whole(Leaf::UnknownField(*f, *kind, shared)))
             }
             Atom::OpaqueStride(x, k) => Ok(Part::Whole(Leaf::OpaqueStride(*x, *k))),

@@ -1,11 +1,13 @@
 //! What stands for variables, fields and strides at a place of a procedure.
-ghost use Rattle.std.specs.Prelude.{◌≡◌, ◌&&◌, IsTrue, Some};
+ghost use Rattle.std.specs.Prelude.{◌≡◌, ◌&&◌, IfOk, IsTrue, Some};
 ghost use Rattle.exo_tree.specs.PlainArgument.{argument};
+ghost use Rattle.affine_forms.specs.Atoms.{UnknownField};
+ghost use Rattle.affine_forms.specs.PlainAtoms.{plain_atom};
 ghost use Rattle.affine_forms.specs.PlainFormulas.{FormulaMade};
 ghost use Rattle.affine_forms.specs.Forms.{is_short_form};
 ghost use Rattle.affine_forms.specs.Outcomes.{Formed};
 ghost use Rattle.affine_places.specs.Facts as plain;
-ghost use Rattle.affine_places.specs.Facts.{fact_keeps_rules, fact_of};
+ghost use Rattle.affine_places.specs.Facts.{fact_keeps_rules, fact_of, kind_of};
 ghost use Rattle.affine_places.specs.Readings.{place_reading, place_flags, field_form, field_fits, field_formula, field_formula_fits};
 ghost use Rattle.affine_places.specs.Seen.{roots_in};
 
@@ -14,8 +16,9 @@ use crate::extents::stride_of;
 use crate::facts::{Fact, Facts};
 use crate::roots::Roots;
 use affine_forms::{Atom, Draft, FlagReader, FormError, Formula, Reader, form, formula_of};
-use exo_tree::{Arg, FieldId, Fields, Id};
-use std::alloc::Global;
+use exo_tree::{Arg, FieldId, Fields, Id, Path};
+use std::alloc::{AllocError, Global};
+use std::sync::Arc;
 
 /// A place of a procedure, with the roots of its names, at which these facts of fields are known.
 #[derive(Drop)]
@@ -23,6 +26,20 @@ pub struct AtPlace<'a, 'r> {
     pub fields: &'a Fields,
     pub roots: &'a Roots<'r>,
     pub facts: &'a Facts,
+}
+
+/// A field that the statement at a path made unknown.
+fn unknown_field(
+    alloc: Global,
+    fields: &Fields,
+    f: FieldId,
+    path: &Path,
+) -> Result<Atom, AllocError>
+    ensures { IfOk result
+        (λ a. plain_atom a ≡ UnknownField f.0 (kind_of fields.now f.0) path.now) }
+{
+    let shared = Arc::new(alloc, path.duplicate())?;
+    Ok(Atom::UnknownField(f, kind_of(fields, f), shared))
 }
 
 /// The form of a known value.
@@ -63,10 +80,8 @@ impl Reader for AtPlace<'_, '_> {
                 Ok(l)
             }
             Some(Fact::Unknown(path)) => {
-                let l = Draft::only(
-                    alloc,
-                    Atom::UnknownField(f, kind_of(self.fields, f), path.duplicate()),
-                )?;
+                let unknown = unknown_field(alloc, self.fields, f, path)?;
+                let l = Draft::only(alloc, unknown)?;
                 Ok(l)
             }
             Some(Fact::Known(value)) => known(alloc, self.fields, self.roots, f, value),
@@ -118,10 +133,8 @@ impl FlagReader for AtPlace<'_, '_> {
                 Ok(set)
             }
             Some(Fact::Unknown(path)) => {
-                let set = Formula::is_set(
-                    alloc,
-                    Atom::UnknownField(f, kind_of(self.fields, f), path.duplicate()),
-                )?;
+                let unknown = unknown_field(alloc, self.fields, f, path)?;
+                let set = Formula::is_set(alloc, unknown)?;
                 Ok(set)
             }
             Some(Fact::Known(value)) => known_flag(alloc, self.fields, self.roots, f, value),

@@ -5,3 +5,4 @@ pub mod PlainCases
 pub mod PlainMade
 pub mod Outcomes
 pub mod Limits
+pub mod Amounts

@@ -1,9 +1,9 @@
 //! What is owed together, in its order and within the limits.
-ghost use Rattle.std.specs.Prelude.{◌≡◌, ◌≤◌, ◌∷◌, [], map, length};
+ghost use Rattle.std.specs.Prelude.{◌≡◌, ◌≤◌, [], map, length};
 ghost use Rattle.std.specs.List.{sum_by};
 ghost use Rattle.affine_forms.specs.System.{plain_system};
 ghost use Rattle.affine_systems.specs.Outcomes.{plain_obligation};
-ghost use Rattle.affine_systems.specs.Limits.{system_terms, Appended};
+ghost use Rattle.affine_systems.specs.Limits.{system_terms, terms_in, Appended};
 
 use crate::obligation::Obligation;
 use affine_forms::{FormError, Row, System};
@@ -11,10 +11,10 @@ use std::alloc::Global;
 use std::marker::Model;
 
 /// The most obligations of a list.
-const MOST_OBLIGATIONS: usize = 65_536;
+pub(crate) const MOST_OBLIGATIONS: usize = 65_536;
 
 /// The most terms in the obligations of a list together.
-const MOST_TERMS: usize = 4_194_304;
+pub(crate) const MOST_TERMS: usize = 4_194_304;
 
 /// Obligations in their order: at most 65,536, with at most 4,194,304 terms together.
 #[derive(Drop)]
@@ -55,6 +55,18 @@ fn system_terms(s: &System) -> usize
     row_terms(&s.equations) + row_terms(&s.rows)
 }
 
+/// The number of terms of obligations, of which there are not too many.
+pub(crate) fn terms_of(owed: &[Obligation]) -> usize
+    requires { length owed.now ≤ 65536 }
+    ensures { result ≡ terms_in (map plain_obligation owed.now) }
+{
+    let mut count = 0;
+    for o in owed {
+        count += system_terms(&o.system);
+    }
+    count
+}
+
 impl OwedList {
     /// Nothing is owed yet.
     pub fn new(alloc: Global) -> OwedList
@@ -66,31 +78,22 @@ impl OwedList {
         }
     }
 
-    /// Puts an obligation last. `TooManySystems` where it passes a limit.
-    fn push(&mut self, o: Obligation) -> Result<(), FormError>
-        ensures { Appended result self.old (plain_obligation o ∷ []) self.new }
+    /// Puts obligations last, in their order. `TooManySystems` where one passes a limit.
+    pub fn push_all(&mut self, mut more: Vec<Obligation>) -> Result<(), FormError>
+        ensures { Appended result self.old (map plain_obligation more.items) self.new }
     {
-        let terms = self.terms + system_terms(&o.system);
-        if self.items.len() >= MOST_OBLIGATIONS || terms > MOST_TERMS {
+        if more.len() > MOST_OBLIGATIONS - self.items.len() {
             return Err(FormError::TooManySystems);
         }
-        match self.items.push(o) {
+        let terms = self.terms + terms_of(&more);
+        if terms > MOST_TERMS {
+            return Err(FormError::TooManySystems);
+        }
+        match self.items.append(&mut more) {
             Ok(()) => {}
             Err(_) => return Err(FormError::Memory),
         }
         self.terms = terms;
-        Ok(())
-    }
-
-    /// Puts obligations last, in their order. `TooManySystems` where one passes a limit.
-    pub fn push_all(&mut self, more: Vec<Obligation>) -> Result<(), FormError>
-        ensures { Appended result self.old (map plain_obligation more.items) self.new }
-    {
-        // the proof learns here that what is owed already is within the limits
-        let _ = &self.terms;
-        for o in more {
-            self.push(o)?;
-        }
         Ok(())
     }
 

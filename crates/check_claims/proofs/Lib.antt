@@ -3,3 +3,4 @@ pub mod PairClaims
 pub mod Passing
 pub mod Walks
 pub mod ShortUnits
+mod Placing

@@ -4,7 +4,7 @@ use Rattle.std.specs.Prelude.{ℕ, suc, pos, ◌==◌, Bool, false, ◌&&◌, �
 use Rattle.std.specs.Prelude.{List, [], ◌∷◌, ◌++◌, map, flat_map, Option, Some, None, option_map}
 use Rattle.std.specs.Prelude.{slice_get}
 use Rattle.exo_tree.specs.Tree.{Kind, Size, Control, Lit, Condition, Le, Lt, Eq, Datum, Const, Read, Negated, Relu, Plus, Minus, Times, Select, Coord, At, Span, Argument, ControlArg, ConditionArg, Whole, Window, Statement, Assign, Reduce, Config, Pass, If, For, Alloc, View, Call, Block, end, next, ControlParam, TensorParam, WindowParam, Param, Procedure, Program}
-use Rattle.exo_tree.specs.Places.{Branch, Main, Else, Path}
+use Rattle.exo_tree.specs.Places.{Branch, Main, Else, Path, statement_at}
 use Rattle.exo_meaning.specs.Run.{kinds_of}
 use Rattle.exo_meaning.specs.Modes.{Writing, Reducing, unit_modes}
 use Rattle.exo_meaning.specs.Units.{field_kind}
@@ -214,3 +214,15 @@ claims_of u p = procedure_claims (words_of u p) u (extents_of p) (roots_of p) p
 -- of the procedure of that number; none where there is no such procedure
 abbrev pub unit_claims : Program → ℕ → List Placed
 unit_claims u k = elim (slice_get u.procedures k) [ None ↦ [] | Some p ↦ claims_of u p ]
+
+-- of the statement at a path itself; none where no statement stands there
+abbrev pub claims_there : Program → Procedure → Path → List Placed
+claims_there u p path = elim (statement_at path p.body) [
+  | None ↦ []
+  | Some s ↦ placed_at path (own_claims (words_of u p) u (extents_of p) (roots_of p) s)
+]
+
+-- in the procedure of that number; none where there is no such procedure
+abbrev pub unit_claims_there : Program → ℕ → Path → List Placed
+unit_claims_there u k path =
+    elim (slice_get u.procedures k) [ None ↦ [] | Some p ↦ claims_there u p path ]

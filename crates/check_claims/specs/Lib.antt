@@ -5,6 +5,7 @@ pub mod Claim
 pub mod ClaimCodes
 pub mod PlainClaim
 pub mod Claims
+pub mod Places
 pub mod Short
 pub mod Seen
 pub mod Orders

@@ -6,9 +6,12 @@ mod bounds;
 mod call;
 mod claim;
 mod extents;
+pub mod laws;
 mod list;
+mod parts;
 mod walk;
 
 pub use claim::{Claim, Placed};
 pub use extents::Extents;
-pub use walk::claims_of;
+pub use parts::{Part, claims_between};
+pub use walk::{claims_of, claims_there};

@@ -16,7 +16,8 @@ ghost use Rattle.affine_places.specs.Seen.{roots_in};
 ghost use Rattle.text_show.specs.Seen.{words_in};
 ghost use Rattle.check_claims.specs.Claims.{write_claims, own_claims, into, block_claims};
 ghost use Rattle.check_claims.specs.Claims.{inner_claims, param_claims, procedure_claims};
-ghost use Rattle.check_claims.specs.Claims.{claims_of, unit_claims};
+ghost use Rattle.check_claims.specs.Claims.{placed_at, claims_of, unit_claims};
+ghost use Rattle.check_claims.specs.Claims.{claims_there, unit_claims_there};
 ghost use Rattle.check_claims.specs.PlainClaim.{placed};
 ghost use Rattle.check_claims.specs.Seen.{extents_in};
 ghost use Rattle.check_claims.specs.Short.{is_short_inside, step_is_short, has_few_params};
@@ -28,7 +29,7 @@ use crate::extents::{Extents, dims_of};
 use crate::list::Claims;
 use affine_places::Roots;
 use exo_modes::ModeTable;
-use exo_tree::{Arg, Block, Branch, FieldId, Param, Path, Proc, ProcId, Step, Stmt, Unit};
+use exo_tree::{Arg, Block, Branch, FieldId, Param, Path, Proc, ProcId, Step, Stmt, Unit, at};
 use std::alloc::{AllocError, Global};
 use text_show::Words;
 
@@ -85,7 +86,7 @@ pub(crate) fn put_own(
 }
 
 /// The path of a statement in a branch of the statement at the path.
-fn into(path: &Path, branch: Branch, index: u32) -> Path
+pub(crate) fn into(path: &Path, branch: Branch, index: u32) -> Path
     requires { length path.now < 32 }
     ensures { result ≡ into path.now (branch_taken branch) index }
 {
@@ -241,4 +242,70 @@ pub fn claims_of(
         put_claims(alloc, &mut out, unit, modes, roots, found)?;
     }
     Ok(out)
+}
+
+/// The claims of a statement itself, with its path.
+fn placed_own(alloc: Global, site: &Site, path: &Path, s: &Stmt) -> Result<Vec<Placed>, AllocError>
+    ensures { IfOk result (λ l. map placed l.items
+        ≡ placed_at path.now
+        (own_claims (words_in site.now.words.now) (program site.now.unit.now)
+        (extents_in site.now.extents.now) (roots_in site.now.roots.now) (statement s.now))) }
+{
+    let mut out = Vec::new(alloc);
+    let mut own = Claims::new(alloc);
+    put_own(alloc, &mut own, site, s)?;
+    own.place(&mut out, path)?;
+    Ok(out)
+}
+
+/// The claims of the statement at a path of a procedure of the unit.
+fn own_there(
+    alloc: Global,
+    unit: &Unit,
+    modes: &ModeTable,
+    roots: &Roots<'_>,
+    p: &Proc,
+    path: &Path,
+) -> Result<Vec<Placed>, AllocError>
+    requires few { IsTrue (list_all has_few_params (program unit.now).procedures) }
+    requires modes { table_says modes.now ≡ modes_of (program unit.now) }
+    requires roots { roots_in roots.now ≡ roots_of (procedure p.now) }
+    ensures { IfOk result (λ l. map placed l.items
+        ≡ claims_there (program unit.now) (procedure p.now) path.now) }
+{
+    let Some(s) = at(p, path) else {
+        return Ok(Vec::new(alloc));
+    };
+    let words = Words::new(alloc, unit, p)?;
+    let extents = Extents::of(alloc, p)?;
+    let site = Site {
+        unit,
+        modes,
+        words: &words,
+        extents: &extents,
+        roots,
+    };
+    placed_own(alloc, &site, path, s)
+}
+
+/// Those of them that the statement at a path has to show itself, without the blocks inside it;
+/// nothing where no statement stands there.
+pub fn claims_there(
+    alloc: Global,
+    unit: &Unit,
+    modes: &ModeTable,
+    roots: &Roots<'_>,
+    p: ProcId,
+    path: &Path,
+) -> Result<Vec<Placed>, AllocError>
+    requires unit { IsUnit (program unit.now) }
+    requires modes { table_says modes.now ≡ modes_of (program unit.now) }
+    requires roots { roots_in roots.now ≡ unit_roots (program unit.now) p.0 }
+    ensures { IfOk result (λ l. map placed l.items
+        ≡ unit_claims_there (program unit.now) p.0 path.now) }
+{
+    match unit.procs.get(p.0 as usize) {
+        None => Ok(Vec::new(alloc)),
+        Some(found) => own_there(alloc, unit, modes, roots, found, path),
+    }
 }

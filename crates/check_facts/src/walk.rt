@@ -1,6 +1,6 @@
 //! The way to a place.
-ghost use Rattle.std.specs.Prelude.{◌≡◌, ◌≤◌, ◌+◌, ◌∷◌, IsTrue, IsSome, IfOk, OnOk, Option, Some};
-ghost use Rattle.std.specs.Prelude.{length, map, zero};
+ghost use Rattle.std.specs.Prelude.{◌≡◌, ◌<◌, ◌≤◌, ◌+◌, ◌^◌, ◌∷◌, IsTrue, IsSome, IfOk, OnOk};
+ghost use Rattle.std.specs.Prelude.{Option, Some, length, map, zero, suc};
 ghost use Rattle.exo_tree.specs.Tree as tree;
 ghost use Rattle.exo_tree.specs.Tree.{block};
 ghost use Rattle.exo_tree.specs.Branches.{branch_of};
@@ -9,7 +9,7 @@ ghost use Rattle.exo_tree.specs.Places.{opened_in};
 ghost use Rattle.exo_tree.specs.PlainPlace.{branch_taken, step_taken};
 ghost use Rattle.exo_tree.specs.PlainStatement.{statement};
 ghost use Rattle.exo_meaning.specs.Units.{levels, step_levels, is_short};
-ghost use Rattle.meaning_laws.specs.KnownFields.{KnownFields, after, known_at};
+ghost use Rattle.meaning_laws.specs.KnownFields.{KnownFields, path_in, after, known_at};
 ghost use Rattle.meaning_laws.specs.PlaceFacts.{facts_round};
 ghost use Rattle.affine_places.specs.Rules.{block_keeps_rules, statement_keeps_rules};
 ghost use Rattle.check_facts.specs.Contexts.{facts_from};
@@ -77,6 +77,38 @@ fn all_after<'a>(
     }
 }
 
+/// The same after the statement of that index in a branch of the statement at a path. A path is
+/// made only where the statement may change what is known.
+fn all_after_next<'a>(
+    basis: &Ground<'_, '_>,
+    alloc: Global,
+    outer: &Path,
+    branch: Branch,
+    k: usize,
+    s: &'a Stmt,
+    known: &mut Known<'a>,
+) -> Result<(), AllocError>
+    requires rules { IsTrue (statement_keeps_rules (statement s.now)) }
+    requires number { k < 2 ^ 31 }
+    requires room { length outer.now + suc (step_levels (statement s.now)) ≤ 32 }
+    ensures { OnOk result
+        (SameBelow basis.now.count (known_in known.new)
+        (after (telling_of basis.now) (path_in outer.now (branch_taken branch) k)
+        (statement s.now) (known_in known.old))) }
+{
+    match s {
+        Stmt::Assign(_, _, _) => Ok(()),
+        Stmt::Reduce(_, _, _) => Ok(()),
+        Stmt::Pass => Ok(()),
+        Stmt::Alloc(_, _, _, _) => Ok(()),
+        Stmt::View(_, _, _) => Ok(()),
+        _ => {
+            let path = path_in(outer, branch, k);
+            all_after(basis, alloc, &path, s, known)
+        }
+    }
+}
+
 /// From what is known of them before one statement of a branch of the statement at a path, what is
 /// known before a later one.
 fn pass<'a>(
@@ -102,9 +134,11 @@ fn pass<'a>(
         (passed (telling_of basis.now) outer.now (branch_taken branch) zero to (block b.now)
         first)) }
 {
+    if basis.count == 0 {
+        return Ok(());
+    }
     for k in from..to {
-        let path = path_in(outer, branch, k);
-        all_after(basis, alloc, &path, b.statement(k), known)?;
+        all_after_next(basis, alloc, outer, branch, k, b.statement(k), known)?;
     }
     Ok(())
 }

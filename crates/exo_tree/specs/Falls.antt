@@ -1,7 +1,7 @@
 -- A block inside a statement has fewer statements than the block around it.
 use Rattle.std.specs.Prelude.{◌≤◌, List, [], ◌∷◌, map}
 use Rattle.std.proofs.Common.{arith, Global}
-use Rattle.std.specs.declared.rc.Rc.{Rc}
+use Rattle.std.specs.declared.sync.Arc.{Arc}
 use denote.Param.Weighed.{most}
 use Rattle.exo_tree.specs.declared.block.Stmt.{Stmt}
 use Rattle.exo_tree.specs.declared.block.Stmt.TheVariants.{Assign, Reduce, Config, Pass, If, For, Alloc, View, Call}
@@ -20,6 +20,6 @@ deep_le-nodes (Alloc b t dims m) = omega arith
 deep_le-nodes (View b x cs) = omega arith
 deep_le-nodes (Call p args) = omega arith
 
-pub depth_le-nodes : (rs : List (Rc Stmt Global)) → most (λ r. deep-Stmt r.value) rs ≤ nodes_of (map (λ r. statement r.value) rs)
+pub depth_le-nodes : (rs : List (Arc Stmt Global)) → most (λ r. deep-Stmt r.value) rs ≤ nodes_of (map (λ r. statement r.value) rs)
 depth_le-nodes [] = omega arith
 depth_le-nodes (r ∷ rs) = omega (arith, deep_le-nodes r.value, depth_le-nodes rs)

@@ -12,7 +12,7 @@ use crate::list::{Coords, Indices};
 use crate::number::{Cell, FieldId, Id, MemId, ProcId};
 use std::alloc::{AllocError, Global};
 use std::marker::Model;
-use std::rc::Rc;
+use std::sync::Arc;
 
 /// A statement.
 #[cycle(tree)]
@@ -40,7 +40,7 @@ pub enum Stmt {
 #[cycle(tree)]
 #[derive(Drop)]
 pub struct Block {
-    statements: Vec<Rc<Stmt>>,
+    statements: Vec<Arc<Stmt>>,
 }
 
 impl Model for Block {
@@ -89,7 +89,7 @@ impl Block {
         ensures unchanged { OnErr result (self.new ≡ self.old) }
     {
         let alloc = *self.statements.allocator();
-        self.statements.push(Rc::new(alloc, s)?)?;
+        self.statements.push(Arc::new(alloc, s)?)?;
         Ok(())
     }
 
@@ -113,7 +113,7 @@ impl Block {
     }
 
     /// Puts a statement of another block last.
-    fn share(&mut self, s: &Rc<Stmt>) -> Result<(), AllocError>
+    fn share(&mut self, s: &Arc<Stmt>) -> Result<(), AllocError>
         ensures { OnOk result (self.new ≡ self.old ++ statement s.now.value ∷ []) }
     {
         self.statements.push(s.clone()?)?;

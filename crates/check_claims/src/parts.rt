@@ -1,0 +1,294 @@
+//! The claims of a procedure, so many places at a time.
+ghost use Rattle.std.specs.Prelude.{◌≡◌, ◌+◌, ◌<◌, IsTrue, true, [], map, OnOk, IfOk, length};
+ghost use Rattle.std.specs.List.{list_all};
+ghost use Rattle.exo_tree.specs.Tree.{block};
+ghost use Rattle.exo_tree.specs.PlainPlace.{branch_taken};
+ghost use Rattle.exo_tree.specs.PlainParam.{parameter};
+ghost use Rattle.exo_tree.specs.PlainStatement.{statement};
+ghost use Rattle.exo_tree.specs.PlainProcedure.{procedure};
+ghost use Rattle.exo_tree.specs.PlainUnit.{program};
+ghost use Rattle.exo_meaning.specs.Units.{is_short, levels, step_levels, IsUnit};
+ghost use Rattle.exo_modes.specs.Marks.{modes_of};
+ghost use Rattle.exo_modes.specs.Seen.{table_says};
+ghost use Rattle.affine_places.specs.Roots.{roots_of, unit_roots};
+ghost use Rattle.affine_places.specs.Seen.{roots_in};
+ghost use Rattle.text_show.specs.Seen.{words_in};
+ghost use Rattle.check_claims.specs.Claims.{into, own_claims, param_claims};
+ghost use Rattle.check_claims.specs.PlainClaim.{placed};
+ghost use Rattle.check_claims.specs.Places.{block_places, inner_places, places_of};
+ghost use Rattle.check_claims.specs.Places.{with_place, with_places};
+ghost use Rattle.check_claims.specs.Places.{claims_between, has_more};
+ghost use Rattle.check_claims.specs.Places.{unit_claims_between, unit_has_more};
+ghost use Rattle.check_claims.specs.Seen.{extents_in};
+ghost use Rattle.check_claims.specs.Short.{is_short_inside, step_is_short, has_few_params};
+
+use crate::bounds::Site;
+use crate::claim::Placed;
+use crate::extents::Extents;
+use crate::list::Claims;
+use crate::walk::{into, put_own, put_params};
+use affine_places::Roots;
+use exo_modes::ModeTable;
+use exo_tree::{Block, Branch, Param, Path, Proc, ProcId, Stmt, Unit};
+use std::alloc::{AllocError, Global};
+use text_show::Words;
+
+/// Which of the places that come are taken: so many are passed over, and then so many are taken.
+#[derive(Clone, Copy)]
+pub(crate) struct Window {
+    pub(crate) skip: usize,
+    pub(crate) left: usize,
+    /// Whether a place came behind those.
+    pub(crate) more: bool,
+}
+
+impl Window {
+    ghost use Rattle.std.specs.Prelude.{◌≡◌};
+    ghost use Rattle.check_claims.specs.Places.{moved, takes};
+
+    /// Goes on over a place, and tells whether it is taken.
+    fn takes_next(&mut self) -> bool
+        ensures taken { result ≡ takes self.old }
+        ensures moved { self.new ≡ moved self.old }
+    {
+        if self.skip > 0 {
+            self.skip -= 1;
+            return false;
+        }
+        if self.left > 0 {
+            self.left -= 1;
+            return true;
+        }
+        self.more = true;
+        false
+    }
+}
+
+/// The claims of some places of a procedure.
+#[derive(Drop)]
+pub struct Part {
+    pub claims: Vec<Placed>,
+    /// Whether the procedure has a place behind those.
+    pub more: bool,
+}
+
+/// Goes on over the statement of that number in a branch of the statement at a path: puts its own
+/// claims last, if it is taken.
+fn put_place(
+    alloc: Global,
+    out: &mut Vec<Placed>,
+    site: &Site,
+    window: &mut Window,
+    outer: &Path,
+    branch: Branch,
+    k: u32,
+    s: &Stmt,
+) -> Result<(), AllocError>
+    requires { length outer.now < 32 }
+    ensures { OnOk result
+        ((map placed out.new.items, window.new)
+        ≡ with_place (map placed out.old.items, window.old) (
+          into outer.now (branch_taken branch) k,
+          own_claims (words_in site.now.words.now) (program site.now.unit.now)
+              (extents_in site.now.extents.now) (roots_in site.now.roots.now) (statement s.now),
+        )) }
+{
+    if window.takes_next() {
+        let path = into(outer, branch, k);
+        let mut own = Claims::new(alloc);
+        put_own(alloc, &mut own, site, s)?;
+        own.place(out, &path)?;
+    }
+    Ok(())
+}
+
+/// Goes on over the statements of a block and of the blocks inside them.
+#[cycle(walk)]
+fn put_block_places(
+    alloc: Global,
+    out: &mut Vec<Placed>,
+    site: &Site,
+    window: &mut Window,
+    outer: &Path,
+    branch: Branch,
+    b: &Block,
+) -> Result<(), AllocError>
+    requires short { is_short (block b.now) ≡ true }
+    requires inside { is_short_inside (block b.now) ≡ true }
+    requires levels { length outer.now + levels (block b.now) < 33 }
+    ensures { OnOk result
+        ((map placed out.new.items, window.new)
+        ≡ with_places (map placed out.old.items, window.old)
+        (block_places (words_in site.now.words.now) (program site.now.unit.now)
+        (extents_in site.now.extents.now) (roots_in site.now.roots.now) outer.now
+        (branch_taken branch) 0 (block b.now))) }
+{
+    for k in 0..b.len() {
+        let s = b.statement(k);
+        put_place(alloc, out, site, window, outer, branch, k as u32, s)?;
+        put_inner_places(alloc, out, site, window, outer, branch, k as u32, s)?;
+    }
+    Ok(())
+}
+
+/// Goes on over the blocks of the statement of that number in a branch of the statement at a path.
+#[tactic(auto, using(crate::proofs::Walks::left_least, crate::proofs::Walks::right_least, crate::proofs::Walks::into_length))]
+#[cycle(walk)]
+fn put_inner_places(
+    alloc: Global,
+    out: &mut Vec<Placed>,
+    site: &Site,
+    window: &mut Window,
+    outer: &Path,
+    branch: Branch,
+    k: u32,
+    s: &Stmt,
+) -> Result<(), AllocError>
+    requires inside { step_is_short (statement s.now) ≡ true }
+    requires levels { length outer.now + step_levels (statement s.now) < 32 }
+    ensures { OnOk result
+        ((map placed out.new.items, window.new)
+        ≡ with_places (map placed out.old.items, window.old)
+        (inner_places (words_in site.now.words.now) (program site.now.unit.now)
+        (extents_in site.now.extents.now) (roots_in site.now.roots.now)
+        (into outer.now (branch_taken branch) k) (statement s.now))) }
+{
+    match s {
+        Stmt::If(_, a, b) => {
+            let path = into(outer, branch, k);
+            put_block_places(alloc, out, site, window, &path, Branch::Main, a)?;
+            put_block_places(alloc, out, site, window, &path, Branch::Else, b)
+        }
+        Stmt::For(_, _, _, b) => {
+            let path = into(outer, branch, k);
+            put_block_places(alloc, out, site, window, &path, Branch::Main, b)
+        }
+        _ => Ok(()),
+    }
+}
+
+/// Goes on over the parameters of a procedure, which are its first place.
+fn put_head(
+    alloc: Global,
+    out: &mut Vec<Placed>,
+    words: &Words,
+    window: &mut Window,
+    params: &[Param],
+) -> Result<(), AllocError>
+    ensures { OnOk result
+        ((map placed out.new.items, window.new)
+        ≡ with_place (map placed out.old.items, window.old)
+        ([], param_claims (words_in words.now) (map parameter params.now))) }
+{
+    if window.takes_next() {
+        let mut own = Claims::new(alloc);
+        put_params(alloc, &mut own, words, params)?;
+        own.place(out, &Path::new())?;
+    }
+    Ok(())
+}
+
+/// Goes on over all places of a procedure of the unit.
+fn put_places(
+    alloc: Global,
+    out: &mut Vec<Placed>,
+    unit: &Unit,
+    modes: &ModeTable,
+    roots: &Roots<'_>,
+    window: &mut Window,
+    p: &Proc,
+) -> Result<(), AllocError>
+    requires short { is_short (block p.now.body) ≡ true }
+    requires inside { is_short_inside (block p.now.body) ≡ true }
+    requires levels { levels (block p.now.body) < 33 }
+    requires few { IsTrue (list_all has_few_params (program unit.now).procedures) }
+    requires modes { table_says modes.now ≡ modes_of (program unit.now) }
+    requires roots { roots_in roots.now ≡ roots_of (procedure p.now) }
+    ensures { OnOk result
+        ((map placed out.new.items, window.new)
+        ≡ with_places (map placed out.old.items, window.old)
+        (places_of (program unit.now) (procedure p.now))) }
+{
+    let words = Words::new(alloc, unit, p)?;
+    let extents = Extents::of(alloc, p)?;
+    let site = Site {
+        unit,
+        modes,
+        words: &words,
+        extents: &extents,
+        roots,
+    };
+    put_head(alloc, out, &words, window, p.params.as_slice())?;
+    put_block_places(
+        alloc,
+        out,
+        &site,
+        window,
+        &Path::new(),
+        Branch::Main,
+        &p.body,
+    )
+}
+
+/// The claims of so many places of a procedure of the unit, behind so many others.
+fn part_of(
+    alloc: Global,
+    unit: &Unit,
+    modes: &ModeTable,
+    roots: &Roots<'_>,
+    p: &Proc,
+    skip: usize,
+    count: usize,
+) -> Result<Part, AllocError>
+    requires short { is_short (block p.now.body) ≡ true }
+    requires inside { is_short_inside (block p.now.body) ≡ true }
+    requires levels { levels (block p.now.body) < 33 }
+    requires few { IsTrue (list_all has_few_params (program unit.now).procedures) }
+    requires modes { table_says modes.now ≡ modes_of (program unit.now) }
+    requires roots { roots_in roots.now ≡ roots_of (procedure p.now) }
+    ensures claims { IfOk result (λ part. map placed part.claims.items
+        ≡ claims_between (program unit.now) (procedure p.now) skip count) }
+    ensures more { IfOk result (λ part. part.more
+        ≡ has_more (program unit.now) (procedure p.now) skip count) }
+{
+    let mut claims = Vec::new(alloc);
+    let mut window = Window {
+        skip,
+        left: count,
+        more: false,
+    };
+    put_places(alloc, &mut claims, unit, modes, roots, &mut window, p)?;
+    Ok(Part {
+        claims,
+        more: window.more,
+    })
+}
+
+/// The claims of so many places of the procedure `p` of the unit, behind so many others: the first
+/// place is that of its parameters, then come its statements, in text order. The parts one after
+/// the other are what `claims_of` gives.
+pub fn claims_between(
+    alloc: Global,
+    unit: &Unit,
+    modes: &ModeTable,
+    roots: &Roots<'_>,
+    p: ProcId,
+    skip: usize,
+    count: usize,
+) -> Result<Part, AllocError>
+    requires unit { IsUnit (program unit.now) }
+    requires modes { table_says modes.now ≡ modes_of (program unit.now) }
+    requires roots { roots_in roots.now ≡ unit_roots (program unit.now) p.0 }
+    ensures claims { IfOk result (λ part. map placed part.claims.items
+        ≡ unit_claims_between (program unit.now) p.0 skip count) }
+    ensures more { IfOk result (λ part. part.more
+        ≡ unit_has_more (program unit.now) p.0 skip count) }
+{
+    match unit.procs.get(p.0 as usize) {
+        None => Ok(Part {
+            claims: Vec::new(alloc),
+            more: false,
+        }),
+        Some(found) => part_of(alloc, unit, modes, roots, found, skip, count),
+    }
+}
