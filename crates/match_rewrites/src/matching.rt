@@ -13,6 +13,7 @@ ghost use Rattle.unify_laws.specs.Replace.Rule as rule;
 ghost use Rattle.step_driver.specs.Outcomes.{Tries};
 ghost use Rattle.step_driver.specs.PlainTarget.{target, plain_piece};
 ghost use Rattle.step_driver.specs.Spots.{spot_at};
+ghost use Rattle.step_driver.specs.Tables.{HasTables};
 ghost use Rattle.block_matches.specs.PlainMatched.{plain_matched};
 
 use crate::wholes::Handing;
@@ -21,7 +22,6 @@ use affine_places::{AtEntry, Roots, has_extents};
 use block_matches::{Matched, match_with};
 use block_pairs::NameTable;
 use cursor_forward::StepError;
-use exo_modes::ModeTable;
 use exo_tree::{Args, Id, Name, Param, Proc, ProcId};
 use piece_modes::roots_at;
 use std::alloc::{AllocError, Global};
@@ -91,21 +91,22 @@ impl Matching<'_> {
     /// Whether a call with these arguments gives the callee parts of one buffer only as the rule of
     /// calls allows.
     fn may_share(&self, alloc: Global, args: &Args) -> Result<bool, AllocError>
+        requires { HasTables self.now.on.now }
         ensures { IfOk result (λ r. r
             ≡ rule.may_share (target self.now.on.now)
             (spot_at (target self.now.on.now) (plain_piece self.now.piece.now)).opened
             self.now.number.0 (procedure self.now.callee.now) args.now) }
     {
         let on = self.on;
-        let modes = ModeTable::new(alloc, on.unit)?;
         let aliases = roots_at(alloc, on.proc, &self.piece.path, self.piece.count)?;
         let params = &self.callee.params;
-        Ok(gives_apart(on.unit, &modes, &aliases, self.number, params, args))
+        Ok(gives_apart(on.unit, on.modes, &aliases, self.number, params, args))
     }
 
     /// The arguments of a match, where nothing else stands in the way.
     #[tactic(auto, using(crate::proofs::Told::hands_some, crate::proofs::Told::shares_some, crate::proofs::Told::gives_all))]
     fn passed(&self, alloc: Global, args: Args) -> Result<Args, StepError>
+        requires { HasTables self.now.on.now }
         ensures { Tries (λ as'. as')
             (rule.told (target self.now.on.now)
             (spot_at (target self.now.on.now) (plain_piece self.now.piece.now)).opened
@@ -124,7 +125,8 @@ impl Matching<'_> {
     /// The arguments of the call, by a reader of what the procedure reads where it begins.
     #[tactic(auto, using(crate::proofs::Told::too_wide, crate::proofs::Told::arguments_there, crate::proofs::Told::differs_there, crate::proofs::Told::undetermined_there))]
     fn told_by<R: Reader>(&self, alloc: Global, reader: &R) -> Result<Args, StepError>
-        requires { R.reading reader.now ≡ reading_of (target self.now.on.now) }
+        requires tables { HasTables self.now.on.now }
+        requires reading { R.reading reader.now ≡ reading_of (target self.now.on.now) }
         ensures { Tries (λ as'. as')
             (rule.told_there (target self.now.on.now)
             (spot_at (target self.now.on.now) (plain_piece self.now.piece.now)).opened
@@ -143,7 +145,8 @@ impl Matching<'_> {
 
     /// The same by the roots of the procedure.
     fn told_at(&self, alloc: Global, roots: &Roots<'_>) -> Result<Args, StepError>
-        requires { roots_in roots.now ≡ rooted (target self.now.on.now).proc }
+        requires tables { HasTables self.now.on.now }
+        requires roots { roots_in roots.now ≡ rooted (target self.now.on.now).proc }
         ensures { Tries (λ as'. as')
             (rule.told_there (target self.now.on.now)
             (spot_at (target self.now.on.now) (plain_piece self.now.piece.now)).opened
@@ -157,6 +160,7 @@ impl Matching<'_> {
     /// The arguments of the call.
     #[tactic(auto, using(crate::proofs::Told::without_extents, unify_laws::proofs::Simplify::rooted_is))]
     fn told(&self, alloc: Global) -> Result<Args, StepError>
+        requires { HasTables self.now.on.now }
         ensures { Tries (λ as'. as')
             (rule.told_there (target self.now.on.now)
             (spot_at (target self.now.on.now) (plain_piece self.now.piece.now)).opened
@@ -175,7 +179,7 @@ impl Matching<'_> {
 /// the unit has no such procedure, or its body hands on a parameter whole where the piece hands on
 /// a window, while its argument is the whole of a name; `NoMatch` and `Undetermined` as the match
 /// says; `SharedArgument` where the rule of calls refuses the arguments; `Form(WideNumber)` where a
-/// number of a form passes 2^62 in size.
+/// number of a form passes 2^62 in size. The tables are those of the unit.
 #[tactic(auto, using(crate::proofs::Told::no_callee, crate::proofs::Told::callee_there))]
 pub(crate) fn said(
     alloc: Global,
@@ -183,6 +187,7 @@ pub(crate) fn said(
     piece: &Piece,
     number: ProcId,
 ) -> Result<Args, StepError>
+    requires { HasTables on.now }
     ensures { Tries (λ as'. as')
         (rule.said number.0 (target on.now)
         (spot_at (target on.now) (plain_piece piece.now)).opened)

@@ -2,6 +2,7 @@
 ghost use Rattle.std.specs.Prelude.{refl};
 ghost use Rattle.step_driver.specs.Outcomes.{Tries};
 ghost use Rattle.step_driver.specs.PlainTarget.{target};
+ghost use Rattle.step_driver.specs.Tables.{HasTables};
 ghost use Rattle.unify_laws.specs.Replace.Rule.{replace_rule};
 ghost use Rattle.unify_laws.proofs.OfReplace.Replacing.{replace_is_lawful, replace_is_carrying};
 ghost use Rattle.match_rewrites.specs.Unified.{unified};
@@ -22,7 +23,7 @@ use step_targets::{OnPiece, Plain};
 /// window, while its argument is the whole of a name; `NoMatch` where they differ from the body;
 /// `Undetermined` where no place of the body determines a parameter; `SharedArgument` where the
 /// rule of calls refuses the arguments; `Form(WideNumber)` where a number of a form passes 2^62 in
-/// size.
+/// size. The tables are those of the unit.
 #[tactic(auto, using(crate::proofs::Unified::nothing_there, crate::proofs::Unified::used_behind, crate::proofs::Unified::unused))]
 pub fn unify(
     alloc: Global,
@@ -31,6 +32,7 @@ pub fn unify(
     count: u32,
     callee: ProcId,
 ) -> Result<Args, StepError>
+    requires { HasTables on.now }
     ensures { Tries (λ as'. as') (unified callee.0 count (target on.now) at.now) result }
 {
     let piece = Piece {

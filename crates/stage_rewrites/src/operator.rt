@@ -7,6 +7,7 @@ ghost use Rattle.alloc_laws.proofs.OfStage.Carrying.{stage_is_carrying};
 ghost use Rattle.step_driver.specs.PlainTarget.{target, plain_piece};
 ghost use Rattle.step_driver.specs.PlainWriting.{writing};
 ghost use Rattle.step_driver.specs.Spots.{spot_at};
+ghost use Rattle.step_driver.specs.Tables.{HasTables};
 ghost use Rattle.step_needs.specs.Outcomes.{Tries};
 ghost use Rattle.stage_tests.specs.PlainStaging.{plain_staging};
 
@@ -49,6 +50,7 @@ impl StagingBlock<'_> {
         how: Writing,
         buffer: Id,
     ) -> Result<Block, StepError>
+        requires { HasTables on.now }
         ensures { Tries block (staged_draft (plain_staging self.now.staging) (spot_at
             (target on.now) (plain_piece piece.now)) (writing how) buffer.0) result }
     {

@@ -7,6 +7,7 @@ ghost use Rattle.alloc_laws.specs.Stage.Staging as plain;
 ghost use Rattle.alloc_laws.specs.Stage.Staging.{staged_refusal};
 ghost use Rattle.step_driver.specs.PlainTarget.{target, plain_piece};
 ghost use Rattle.step_driver.specs.Spots.{spot_at};
+ghost use Rattle.step_driver.specs.Tables.{HasTables};
 ghost use Rattle.stage_tests.specs.PlainStaging.{plain_staging};
 
 use crate::aliasing::Aliasing;
@@ -78,6 +79,7 @@ impl Staging<'_> {
         on: &Target<'_>,
         piece: &Piece,
     ) -> Result<bool, AllocError>
+        requires { HasTables on.now }
         ensures { IfOk result (λ r. r
             ≡ plain.keeps_no_sum (plain_staging self.now)
             (spot_at (target on.now) (plain_piece piece.now))) }
@@ -93,8 +95,9 @@ impl Staging<'_> {
     /// Why a piece is refused, besides the shape: `OutOfScope` where a name of the window, or that
     /// of its buffer, is not in scope; `Aliased` where the piece uses the buffer by another name
     /// from outside; `StrideUsed` where it looks at strides of the buffer; `NotOnlyReduced` where
-    /// sums are to be kept and it reads or writes the buffer.
+    /// sums are to be kept and it reads or writes the buffer. The tables are those of the unit.
     pub fn refusal(&self, alloc: Global, on: &Target<'_>, piece: &Piece) -> Result<(), StepError>
+        requires { HasTables on.now }
         ensures { Refuses
             (staged_refusal (plain_staging self.now)
             (spot_at (target on.now) (plain_piece piece.now)))

@@ -13,6 +13,7 @@ ghost use Rattle.alloc_laws.specs.Stage.Staging as plain;
 ghost use Rattle.alloc_laws.specs.Stage.Staging.{staged_piece};
 ghost use Rattle.step_driver.specs.PlainTarget.{target, plain_piece};
 ghost use Rattle.step_driver.specs.Spots.{spot_at};
+ghost use Rattle.step_driver.specs.Tables.{HasTables};
 ghost use Rattle.stage_tests.specs.Fitting.{fits};
 ghost use Rattle.stage_tests.specs.PlainStaging.{plain_staging};
 
@@ -88,6 +89,7 @@ impl Staging<'_> {
 
     /// Whether a piece has the shape, where no view that it leaves is used behind it.
     fn fits(&self, alloc: Global, on: &Target<'_>, piece: &Piece) -> Result<bool, AllocError>
+        requires { HasTables on.now }
         ensures { IfOk result (λ r. r
             ≡ fits (plain_staging self.now) (target on.now)
             (spot_at (target on.now) (plain_piece piece.now)).opened) }
@@ -105,7 +107,7 @@ impl Staging<'_> {
     /// as many dimensions as the window has coordinates, a view of it that they leave is used
     /// behind them, an access of it has a span where the window has a point, or the window reads a
     /// field or a stride or names what is no number; the last is allowed of kept sums of a block
-    /// that does not use the buffer.
+    /// that does not use the buffer. The tables are those of the unit.
     #[tactic(auto, using(crate::proofs::Shaped::nothing_there, crate::proofs::Shaped::views_used, crate::proofs::Shaped::has_all, crate::proofs::Shaped::misses_some))]
     pub fn piece(
         &self,
@@ -114,6 +116,7 @@ impl Staging<'_> {
         at: &Path,
         count: u32,
     ) -> Result<Piece, StepError>
+        requires { HasTables on.now }
         ensures { Tries plain_piece
             (staged_piece count (plain_staging self.now) (target on.now) at.now) result }
     {

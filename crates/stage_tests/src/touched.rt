@@ -6,11 +6,12 @@ ghost use Rattle.place_laws.specs.Scope.Roots.{own_roots_at};
 ghost use Rattle.alloc_laws.specs.Stage.Staging as plain;
 ghost use Rattle.step_driver.specs.PlainTarget.{target, plain_piece};
 ghost use Rattle.step_driver.specs.Spots.{spot_at};
+ghost use Rattle.step_driver.specs.Tables.{HasTables};
 ghost use Rattle.stage_tests.specs.PlainStaging.{plain_staging};
 ghost use Rattle.stage_tests.specs.Touched.{touched_as};
 
 use crate::staging::Staging;
-use exo_modes::{Alias, ModeTable, Modes, root};
+use exo_modes::{Alias, Modes, root};
 use piece_modes::{Mode, roots_at, touches_buffer};
 use std::alloc::{AllocError, Global};
 use step_driver::{Piece, Target};
@@ -39,6 +40,7 @@ impl Staging<'_> {
         on: &Target<'_>,
         piece: &Piece,
     ) -> Result<Modes, AllocError>
+        requires { HasTables on.now }
         ensures read { IfOk result (λ m. m.read
             ≡ touched_as Reading (plain_staging self.now)
             (spot_at (target on.now) (plain_piece piece.now))) }
@@ -52,17 +54,10 @@ impl Staging<'_> {
         let block = on.statements(alloc, piece)?;
         let mut aliases = roots_before(alloc, on, piece)?;
         let buffer = root(&aliases, self.root.0);
-        let modes = ModeTable::new(alloc, on.unit)?;
-        let read = touches_buffer(on.unit, &modes, &block, &mut aliases, Mode::Reading, buffer)?;
-        let write = touches_buffer(on.unit, &modes, &block, &mut aliases, Mode::Writing, buffer)?;
-        let reduce = touches_buffer(
-            on.unit,
-            &modes,
-            &block,
-            &mut aliases,
-            Mode::Reducing,
-            buffer,
-        )?;
+        let modes = on.modes;
+        let read = touches_buffer(on.unit, modes, &block, &mut aliases, Mode::Reading, buffer)?;
+        let write = touches_buffer(on.unit, modes, &block, &mut aliases, Mode::Writing, buffer)?;
+        let reduce = touches_buffer(on.unit, modes, &block, &mut aliases, Mode::Reducing, buffer)?;
         Ok(Modes {
             read,
             write,
@@ -70,13 +65,15 @@ impl Staging<'_> {
         })
     }
 
-    /// Whether a piece writes or reduces the buffer of the window, calls included.
+    /// Whether a piece writes or reduces the buffer of the window, calls included. The tables are
+    /// those of the unit.
     pub fn changes_window(
         &self,
         alloc: Global,
         on: &Target<'_>,
         piece: &Piece,
     ) -> Result<bool, AllocError>
+        requires { HasTables on.now }
         ensures { IfOk result (λ r. r
             ≡ plain.changes_window (plain_staging self.now) (target on.now)
             (spot_at (target on.now) (plain_piece piece.now)).opened) }
@@ -103,6 +100,7 @@ impl Staging<'_> {
         on: &Target<'_>,
         piece: &Piece,
     ) -> Result<bool, AllocError>
+        requires { HasTables on.now }
         ensures { IfOk result (λ r. r
             ≡ plain.is_unused (plain_staging self.now) (target on.now)
             (spot_at (target on.now) (plain_piece piece.now)).opened) }
@@ -116,13 +114,14 @@ impl Staging<'_> {
     }
 
     /// Whether sums are to be kept of a piece that views the window or passes it, and touches it
-    /// nowhere.
+    /// nowhere. The tables are those of the unit.
     pub fn is_untouched(
         &self,
         alloc: Global,
         on: &Target<'_>,
         piece: &Piece,
     ) -> Result<bool, AllocError>
+        requires { HasTables on.now }
         ensures { IfOk result (λ r. r
             ≡ plain.is_untouched (plain_staging self.now) (target on.now)
             (spot_at (target on.now) (plain_piece piece.now)).opened) }

@@ -57,6 +57,7 @@ pub trait Operator {
 
     /// The statements that it replaces, or why the place has not its shape.
     fn piece(&self, alloc: Global, on: &Target<'_>, at: &Path) -> Result<Piece, StepError>
+        requires { HasTables on.now }
         ensures { Tries plain_piece ((rule self.now).piece (target on.now) at.now) result };
 
     /// What stands in their place. `fresh` gives the ids of new binders.
@@ -68,6 +69,7 @@ pub trait Operator {
         how: Writing,
         fresh: &mut Fresh,
     ) -> Result<Block, StepError>
+        requires { HasTables on.now }
         ensures { Tries block ((rule self.now).draft (spot_at (target on.now) (plain_piece piece.now)) (writing how) fresh.old) result };
 
     /// How many of the first new ids have names that the user gives; binders behind them are copies.
@@ -81,6 +83,7 @@ pub trait Operator {
 
     /// What has to be shown of the old procedure, in its order, before the result stands for it.
     fn needs(&self, alloc: Global, on: &Target<'_>, piece: &Piece) -> Result<Vec<Need>, AllocError>
+        requires { HasTables on.now }
         ensures { IfOk result (λ ns. map plain_need ns.items ≡ (rule self.now).needs (spot_at (target on.now) (plain_piece piece.now))) };
 
     /// Where the replaced statements go.

@@ -23,6 +23,7 @@ pub(crate) fn needed<O: Operator>(
     piece: &Piece,
     op: &O,
 ) -> Result<Findings, AllocError>
+    requires { HasTables on.now }
     ensures { IfOk result (λ f. f ≡ owing.findings_of_needs (target on.now)
         ((O.rule op.now).needs (spot_at (target on.now) (plain_piece piece.now)))) }
 {

@@ -6,6 +6,7 @@ ghost use Rattle.step_needs.specs.PlainNeed.{plain_need};
 ghost use Rattle.step_driver.specs.PlainTarget.{target, plain_piece};
 ghost use Rattle.step_driver.specs.PlainWriting.{writing};
 ghost use Rattle.step_driver.specs.Spots.{spot_at};
+ghost use Rattle.step_driver.specs.Tables.{HasTables};
 
 use crate::ruled::Ruled;
 use cursor_forward::{Shifts, StepError};
@@ -20,6 +21,7 @@ use step_needs::Need;
 pub trait OnPiece: Ruled {
     /// The statements that it replaces, or why the place has not its shape.
     fn piece(&self, alloc: Global, on: &Target<'_>, at: &Path) -> Result<Piece, StepError>
+        requires { HasTables on.now }
         ensures { Tries plain_piece ((Self.rule self.now).piece (target on.now) at.now) result };
 
     /// What stands in their place. `fresh` gives the ids of new binders.
@@ -31,6 +33,7 @@ pub trait OnPiece: Ruled {
         how: Writing,
         fresh: &mut Fresh,
     ) -> Result<Block, StepError>
+        requires { HasTables on.now }
         ensures { Tries block
             ((Self.rule self.now).draft (spot_at (target on.now) (plain_piece piece.now))
             (writing how) fresh.old)
@@ -38,6 +41,7 @@ pub trait OnPiece: Ruled {
 
     /// What has to be shown.
     fn needs(&self, alloc: Global, on: &Target<'_>, piece: &Piece) -> Result<Vec<Need>, AllocError>
+        requires { HasTables on.now }
         ensures { IfOk result (λ ns. map plain_need ns.items
             ≡ (Self.rule self.now).needs (spot_at (target on.now) (plain_piece piece.now))) };
 

@@ -13,6 +13,6 @@ returns c =
     let t = target m.on.now in
     c.gives_apart.ensures
     ∙ shares_same t (opened m.piece.now.count m.piece.now.path t.proc.body) m.number.0
-    (procedure m.callee.now) c.args.args.now (table_says c.in_ok-modes.modes)
-    (roots_in c.deref.result.now) c.in_ok-modes.ensures
+    (procedure m.callee.now) c.args.args.now (table_says m.on.now.modes.now)
+    (roots_in c.deref.result.now) c.requires.modes
     (ap roots_in c.deref.ensures.value ∙ c.in_ok-aliases.ensures)
