@@ -17,8 +17,8 @@ use Rattle.check_facts.specs.Contexts.{IsPlaceOf}
 use Rattle.bounds_check.specs.Paths.{same_branch, same_path}
 use Rattle.affine_systems.specs.Limits.{are_within}
 use Rattle.bounds_check.specs.Laws.{claim_keeps_rules, is_place_of, may_be_owed}
-use Rattle.bounds_check.specs.Obligations.{Fault, Wide, ManyCases, LargeSystem, ManyObligations, owed_for, owed_for_all, obligations_of, unless_refused, claim_fault, first_fault, list_fault}
-use Rattle.bounds_check.specs.Outcomes.{IsRefusal, AreObligations}
+use Rattle.bounds_check.specs.Obligations.{Fault, Wide, ManyCases, LargeSystem, ManyObligations, owed_for, owed_for_all, unless_refused, claim_fault, first_fault}
+use Rattle.bounds_check.specs.Outcomes.{IsRefusal, AreObligations, AreOwedFor}
 use Rattle.bounds_check.specs.declared.error.CheckError.{CheckError}
 use Rattle.bounds_check.specs.declared.error.CheckError.TheVariants.{TooManyObligations, Form, Memory}
 
@@ -109,57 +109,64 @@ module _ (u : Program) (p : Procedure) where
 
   -- ---- what is left
 
-  -- what is left gives the whole, and may be owed
-  pub record Onward (out : List Owed) (rest : List Placed) : Type 0 where
-    pub fault : first_fault u p out rest ≡ list_fault u p
-    pub owed : out ++ owed_for_all u p rest ≡ obligations_of u p
-    pub owable : list_all (may_be_owed p) rest ≡ true
+  module _ (whole : List Placed) where
+    -- what is left gives the whole, and may be owed
+    pub record Onward (out : List Owed) (rest : List Placed) : Type 0 where
+      pub fault : first_fault u p out rest ≡ first_fault u p [] whole
+      pub owed : out ++ owed_for_all u p rest ≡ owed_for_all u p whole
+      pub owable : list_all (may_be_owed p) rest ≡ true
 
-  pub onward_all : (out : List Owed) (cs : List Placed) → out ≡ [] → cs ≡ claims_of u p → list_all (may_be_owed p) (claims_of u p) ≡ true → Onward out cs
-  onward_all out cs e h k = record {
-    fault = λ i. first_fault u p (e i) (h i);
-    owed = λ i. e i ++ owed_for_all u p (h i);
-    owable = ap (list_all (may_be_owed p)) h ∙ k;
-  }
-
-  module _ (out : List Owed) (rest here others : List Placed) (left : Onward out rest) (split : rest ≡ here ++ others) where
-    both_owable : (list_all (may_be_owed p) here ≡ true) × (list_all (may_be_owed p) others ≡ true)
-    both_owable = and_parts (list_all (may_be_owed p) here) (list_all (may_be_owed p) others) (sym (list_all-append (may_be_owed p) here others) ∙ ap (list_all (may_be_owed p)) (sym split) ∙ left.owable)
-
-    pub onward_more : (new : List Owed) → (first_fault u p out here ≡ None) × (new ≡ out ++ owed_for_all u p here) → Onward new others
-    onward_more new h = record {
-      fault = ap (λ os. first_fault u p os others) h.1 ∙ sym (faults_on out here others h.0) ∙ ap (first_fault u p out) (sym split) ∙ left.fault;
-      owed =
-          ap (λ os. os ++ owed_for_all u p others) h.1
-          ∙ append_assoc out (owed_for_all u p here) (owed_for_all u p others)
-          ∙ ap (λ os. out ++ os) (sym (flat_map-append (owed_for u p) here others))
-          ∙ ap (λ cs. out ++ owed_for_all u p cs) (sym split)
-          ∙ left.owed;
-      owable = both_owable.1;
+    pub onward_all : (out : List Owed) → out ≡ [] → list_all (may_be_owed p) whole ≡ true → Onward out whole
+    onward_all out e k = record {
+      fault = λ i. first_fault u p (e i) whole;
+      owed = λ i. e i ++ owed_for_all u p whole;
+      owable = k;
     }
 
-    pub onward_refused : {A : Type 0} (result : Result (Vec Obligation A) CheckError) (e : CheckError) → IsErrAnd result (λ r. r ≡ e) → IsRefusal e (first_fault u p out here) → AreObligations result u p
-    onward_refused {A} result e is h = go result is
-      where
-        refused : IsRefusal e (list_fault u p)
-        refused = subst (IsRefusal e) (ap (first_fault u p out) (sym split) ∙ left.fault) (refusal_stays e out here others h)
+    module _ (out : List Owed) (rest here others : List Placed) (left : Onward out rest) (split : rest ≡ here ++ others) where
+      both_owable : (list_all (may_be_owed p) here ≡ true) × (list_all (may_be_owed p) others ≡ true)
+      both_owable = and_parts (list_all (may_be_owed p) here) (list_all (may_be_owed p) others) (sym (list_all-append (may_be_owed p) here others) ∙ ap (list_all (may_be_owed p)) (sym split) ∙ left.owable)
 
-        go : (r : Result (Vec Obligation A) CheckError) → IsErrAnd r (λ y. y ≡ e) → AreObligations r u p
-        go (Ok x) w = absurd w
-        go (Err y) w = subst (λ z. IsRefusal z (list_fault u p)) (sym w) refused
+      pub onward_more : (new : List Owed) → (first_fault u p out here ≡ None) × (new ≡ out ++ owed_for_all u p here) → Onward new others
+      onward_more new h = record {
+        fault = ap (λ os. first_fault u p os others) h.1 ∙ sym (faults_on out here others h.0) ∙ ap (first_fault u p out) (sym split) ∙ left.fault;
+        owed =
+            ap (λ os. os ++ owed_for_all u p others) h.1
+            ∙ append_assoc out (owed_for_all u p here) (owed_for_all u p others)
+            ∙ ap (λ os. out ++ os) (sym (flat_map-append (owed_for u p) here others))
+            ∙ ap (λ cs. out ++ owed_for_all u p cs) (sym split)
+            ∙ left.owed;
+        owable = both_owable.1;
+      }
 
-    pub rules_here : list_all (λ c. claim_keeps_rules c.claim) here ≡ true
-    rules_here = go here both_owable.0
-      where
-        go : (cs : List Placed) → list_all (may_be_owed p) cs ≡ true → list_all (λ c. claim_keeps_rules c.claim) cs ≡ true
-        go [] h = refl
-        go (c ∷ cs) h =
-            let q = and_parts (may_be_owed p c) (list_all (may_be_owed p) cs) h in
-            and_from (claim_keeps_rules c.claim) (list_all (λ d. claim_keeps_rules d.claim) cs)
-            (and_parts (claim_keeps_rules c.claim) (is_place_of c.place p) q.0).0 (go cs q.1)
+      pub onward_refused : {A : Type 0} (result : Result (Vec Obligation A) CheckError) (e : CheckError) → IsErrAnd result (λ r. r ≡ e) → IsRefusal e (first_fault u p out here) → AreOwedFor result u p whole
+      onward_refused {A} result e is h = go result is
+        where
+          refused : IsRefusal e (first_fault u p [] whole)
+          refused = subst (IsRefusal e) (ap (first_fault u p out) (sym split) ∙ left.fault) (refusal_stays e out here others h)
 
-  pub onward_none : (out : List Owed) → Onward out [] → (list_fault u p ≡ None) × (out ≡ obligations_of u p)
-  onward_none out left = (sym left.fault, sym (append-nil out) ∙ left.owed)
+          go : (r : Result (Vec Obligation A) CheckError) → IsErrAnd r (λ y. y ≡ e) → AreOwedFor r u p whole
+          go (Ok x) w = absurd w
+          go (Err y) w = subst (λ z. IsRefusal z (first_fault u p [] whole)) (sym w) refused
+
+      pub rules_here : list_all (λ c. claim_keeps_rules c.claim) here ≡ true
+      rules_here = go here both_owable.0
+        where
+          go : (cs : List Placed) → list_all (may_be_owed p) cs ≡ true → list_all (λ c. claim_keeps_rules c.claim) cs ≡ true
+          go [] h = refl
+          go (c ∷ cs) h =
+              let q = and_parts (may_be_owed p c) (list_all (may_be_owed p) cs) h in
+              and_from (claim_keeps_rules c.claim) (list_all (λ d. claim_keeps_rules d.claim) cs)
+              (and_parts (claim_keeps_rules c.claim) (is_place_of c.place p) q.0).0 (go cs q.1)
+
+    pub onward_none : (out : List Owed) → Onward out [] → (first_fault u p [] whole ≡ None) × (out ≡ owed_for_all u p whole)
+    onward_none out left = (sym left.fault, sym (append-nil out) ∙ left.owed)
+
+-- what all claims of a procedure owe is what it owes
+pub all_owed : {A : Type 0} (u : Program) (p : Procedure) (cs : List Placed) (r : Result (Vec Obligation A) CheckError)
+    → cs ≡ claims_of u p → AreOwedFor r u p cs → AreObligations r u p
+all_owed u p cs (Ok os) e h = (ap (first_fault u p []) (sym e) ∙ h.0, h.1 ∙ ap (owed_for_all u p) e)
+all_owed u p cs (Err x) e h = subst (λ l. IsRefusal x (first_fault u p [] l)) e h
 
 -- ---- places
 

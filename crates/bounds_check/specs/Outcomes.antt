@@ -4,7 +4,9 @@ use Rattle.exo_tree.specs.Tree.{Procedure, Program}
 use Rattle.affine_forms.specs.declared.error.FormError.TheVariants as form
 use Rattle.affine_systems.specs.Outcomes.{Owed, plain_obligation}
 use Rattle.affine_systems.specs.declared.obligation.Obligation.{Obligation}
+use Rattle.exo_tree.specs.Places.{Path}
 use Rattle.check_claims.specs.Claim.{Placed}
+use Rattle.check_claims.specs.Claims.{claims_there}
 use Rattle.bounds_check.specs.Obligations.{Fault, Wide, ManyCases, LargeSystem, ManyObligations, owed_for_all, obligations_of, first_fault, list_fault}
 use Rattle.bounds_check.specs.declared.error.CheckError.{CheckError}
 use Rattle.bounds_check.specs.declared.error.CheckError.TheVariants.{TooManyObligations, Form, Memory}
@@ -24,6 +26,14 @@ abbrev pub Owes : {A : Type 0} → Result A CheckError → Program → Procedure
 Owes (Ok t) u p cs old new = (first_fault u p old cs ≡ None) × (new ≡ old ++ owed_for_all u p cs)
 Owes (Err e) u p cs old new = IsRefusal e (first_fault u p old cs)
 
+-- what claims of a procedure owe together comes exactly where nothing of it is refused, else the
+-- first fault
+abbrev pub AreOwedFor :
+    {A : Type 0} → Result (Vec Obligation A) CheckError → Program → Procedure → List Placed → Type 0
+AreOwedFor (Ok os) u p cs =
+    (first_fault u p [] cs ≡ None) × (map plain_obligation os.items ≡ owed_for_all u p cs)
+AreOwedFor (Err e) u p cs = IsRefusal e (first_fault u p [] cs)
+
 -- a procedure's obligations come exactly where none of its claims is refused, else the first fault
 abbrev pub AreObligations : {A : Type 0} → Result (Vec Obligation A) CheckError → Program → Procedure → Type 0
 AreObligations (Ok os) u p = (list_fault u p ≡ None) × (map plain_obligation os.items ≡ obligations_of u p)
@@ -34,3 +44,11 @@ abbrev pub AreObligationsIn : {A : Type 0} → Result (Vec Obligation A) CheckEr
 AreObligationsIn (Ok os) u None = os.items ≡ []
 AreObligationsIn (Err e) u None = e ≡ Memory
 AreObligationsIn r u (Some p) = AreObligations r u p
+
+-- what the statement at a path owes itself, in the procedure of that number; nothing where the unit
+-- has no such procedure
+abbrev pub AreOwedThere :
+    {A : Type 0} → Result (Vec Obligation A) CheckError → Program → Option Procedure → Path → Type 0
+AreOwedThere (Ok os) u None path = os.items ≡ []
+AreOwedThere (Err e) u None path = e ≡ Memory
+AreOwedThere r u (Some p) path = AreOwedFor r u p (claims_there u p path)

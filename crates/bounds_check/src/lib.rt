@@ -7,4 +7,4 @@ pub mod laws;
 mod list;
 
 pub use error::CheckError;
-pub use list::{obligations, obligations_with_tables};
+pub use list::{obligations, obligations_there, obligations_with_tables};

@@ -7,12 +7,11 @@ ghost use Rattle.exo_meaning.specs.Units.{IsUnit};
 ghost use Rattle.meaning_laws.specs.UnitFields.{unit_writes};
 ghost use Rattle.config_state.specs.FieldSets.{IsTable};
 ghost use Rattle.check_claims.specs.PlainClaim.{placed};
-ghost use Rattle.check_claims.specs.Claims.{claims_of};
 ghost use Rattle.exo_modes.specs.Marks.{modes_of};
 ghost use Rattle.exo_modes.specs.Seen.{table_says};
 ghost use Rattle.bounds_check.specs.Paths.{same_path};
 ghost use Rattle.bounds_check.specs.Laws.{may_be_owed};
-ghost use Rattle.bounds_check.specs.Outcomes.{AreObligations, AreObligationsIn};
+ghost use Rattle.bounds_check.specs.Outcomes.{AreObligationsIn, AreOwedFor, AreOwedThere};
 ghost use Rattle.bounds_check.specs.Sites.{IsSite};
 
 use crate::claims::{Site, put_claims};
@@ -20,7 +19,7 @@ use crate::error::CheckError;
 use crate::laws::claims_may_be_owed;
 use affine_places::Roots;
 use affine_systems::{Obligation, OwedList};
-use check_claims::{Placed, claims_of};
+use check_claims::{Placed, claims_of, claims_there};
 use check_facts::laws::well_formed_procedures_may_be_walked;
 use check_facts::{Cursor, is_same_path};
 use config_state::{FieldTable, written_table};
@@ -40,17 +39,17 @@ fn count_at(claims: &[Placed], place: &Path) -> usize
     claims.len()
 }
 
-/// The obligations of the claims of a procedure.
+/// The obligations of claims of a procedure.
 fn obligations_of_claims(
     alloc: Global,
     site: &Site<'_, '_>,
     claims: &[Placed],
 ) -> Result<Vec<Obligation>, CheckError>
     requires site { IsSite site.now }
-    requires claims { map placed claims.now ≡ claims_of (program site.now.unit.now) (procedure site.now.proc.now) }
     requires owable { IsTrue (list_all (may_be_owed (procedure site.now.proc.now))
-        (claims_of (program site.now.unit.now) (procedure site.now.proc.now))) }
-    ensures { AreObligations result (program site.now.unit.now) (procedure site.now.proc.now) }
+        (map placed claims.now)) }
+    ensures { AreOwedFor result (program site.now.unit.now) (procedure site.now.proc.now)
+        (map placed claims.now) }
 {
     let mut cursor = Cursor::new(alloc, site.unit, site.proc, site.roots, site.writes);
     let mut out = OwedList::new(alloc);
@@ -84,6 +83,41 @@ pub fn obligations_with_tables(
         Some(proc) => {
             let roots = Roots::of(alloc, proc)?;
             let claims = claims_of(alloc, unit, modes, &roots, p)?;
+            let site = Site {
+                unit,
+                proc,
+                roots: &roots,
+                writes,
+            };
+            obligations_of_claims(alloc, &site, &claims)
+        }
+    }
+}
+
+/// What the statement at a path of the procedure `p` owes itself, without the blocks inside it: of
+/// what `obligations` lists that which has its path. It is refused as a list of these claims alone.
+pub fn obligations_there(
+    alloc: Global,
+    unit: &Unit,
+    writes: &FieldTable,
+    modes: &ModeTable,
+    p: ProcId,
+    path: &Path,
+) -> Result<Vec<Obligation>, CheckError>
+    requires unit { IsUnit (program unit.now) }
+    requires table { IsTable (length (program unit.now).fields)
+        (unit_writes (program unit.now).procedures) writes.now }
+    requires modes { table_says modes.now ≡ modes_of (program unit.now) }
+    ensures { AreOwedThere result (program unit.now)
+        (slice_get (program unit.now).procedures p.0) path.now }
+{
+    claims_may_be_owed();
+    well_formed_procedures_may_be_walked();
+    match unit.procs.get(p.0 as usize) {
+        None => Ok(Vec::new(alloc)),
+        Some(proc) => {
+            let roots = Roots::of(alloc, proc)?;
+            let claims = claims_there(alloc, unit, modes, &roots, p, path)?;
             let site = Site {
                 unit,
                 proc,

@@ -17,3 +17,4 @@ pub use fissioning::Fissioning;
 pub use fusing::Fusing;
 pub use joining::Joining;
 pub use reordering::Reordering;
+pub use same::{same_condition, same_control, same_statement};

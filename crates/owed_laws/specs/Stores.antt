@@ -5,14 +5,10 @@ use Rattle.std.specs.List.{list_any}
 use Rattle.exo_tree.specs.Tree.{Statement, Assign, Reduce, Config, Pass, If, For, Alloc, View, Call}
 use Rattle.exo_tree.specs.Tree.{Block, end, next, Procedure, Program}
 use Rattle.exo_tree.specs.Context.{Context, fill}
-use Rattle.exo_tree.specs.Places.{Path, same_path, opened, statement_at}
+use Rattle.exo_tree.specs.Places.{Path, same_path, opened}
 use Rattle.exo_meaning.specs.Units.{IsUnit}
-use Rattle.affine_places.specs.Roots.{roots_of}
 use Rattle.affine_systems.specs.Outcomes.{Owed}
-use Rattle.text_show.specs.Words.{words_of}
-use Rattle.check_claims.specs.Claim.{Placed}
-use Rattle.check_claims.specs.Extents.{extents_of}
-use Rattle.check_claims.specs.Claims.{own_claims, placed_at}
+pub use Rattle.check_claims.specs.Claims.{claims_there}
 use Rattle.bounds_check.specs.Limits.{are_within}
 use Rattle.bounds_check.specs.Obligations.{owed_for_all, obligations_of, first_fault, list_fault}
 use Rattle.tree_laws.specs.Findings.Versions.{with_version, HasHeadOf}
@@ -50,13 +46,6 @@ pub record StoreVersion (u : Program) (k : ℕ) (p q : Procedure) (path : Path) 
   pub changed : StoreChanged path p.body q.body
 
 -- ---- what is owed at a path, and elsewhere
-
--- the claims of the statement at a path itself
-abbrev pub claims_there : Program → Procedure → Path → List Placed
-claims_there u p path = elim (statement_at path p.body) [
-  | None ↦ []
-  | Some s ↦ placed_at path (own_claims (words_of u p) u (extents_of p) (roots_of p) s)
-]
 
 abbrev pub owed_there : Program → Procedure → Path → List Owed
 owed_there u p path = owed_for_all u p (claims_there u p path)

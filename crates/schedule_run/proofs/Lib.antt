@@ -16,3 +16,11 @@ pub mod Going
 pub mod Lists
 pub mod FirstNamed
 pub mod Caching
+pub mod Renaming
+pub mod Settling
+pub mod Staying
+pub mod Counted
+pub mod Spliced
+pub mod SameNames
+pub mod Changing
+pub mod Following

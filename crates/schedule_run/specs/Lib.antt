@@ -9,3 +9,6 @@ pub mod Running
 pub mod Outcomes
 pub mod Cached
 pub mod Laws
+pub mod Changed
+pub mod Spliced
+pub mod Follows

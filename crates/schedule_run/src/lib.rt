@@ -3,6 +3,7 @@
 
 mod binding;
 mod buffers;
+mod changed;
 mod cursors;
 mod fields;
 pub mod laws;
@@ -13,6 +14,7 @@ mod resolving;
 mod run;
 mod running;
 mod session;
+mod splicing;
 mod staging;
 mod why;
 mod writes;

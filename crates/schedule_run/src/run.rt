@@ -13,7 +13,7 @@ ghost use Rattle.schedule_run.specs.Cached.{LineCached, LinesCached, lists_of};
 ghost use Rattle.schedule_run.specs.Outcomes.{Performs, RunsLine, RunsLines};
 ghost use Rattle.schedule_run.specs.PlainWhy.{why_of_line};
 ghost use Rattle.schedule_run.specs.Planned.{have_forms};
-ghost use Rattle.schedule_run.specs.Running.{IsRunning, versions_in};
+ghost use Rattle.schedule_run.specs.Running.{IsRunning, MarkHolds, versions_in};
 ghost use Rattle.schedule_run.specs.declared.why.Why.TheVariants.{Memory};
 
 use crate::running::Running;
@@ -48,12 +48,14 @@ impl Running {
     ) -> Result<(), Why>
         requires running { IsRunning self.old }
         requires forms { have_forms (plain_request request) ≡ true }
+        requires mark { MarkHolds self.old.latest (held cache.old) }
         ensures performs { Performs (performed (versions_in self.old) (act_of (plain_request request.entry)))
             (versions_in self.new) result }
         ensures running { OnOk result (IsRunning self.new) }
         ensures cache { OnOk result (held cache.new
             ≡ discharged_all (held cache.old)
             (lists_of (versions_in self.old) (act_of (plain_request request.entry)))) }
+        ensures mark { OnOk result (MarkHolds self.new.latest (held cache.new)) }
     {
         match request {
             Request::Apply(bind, of, operation) => self.apply_owned(
@@ -78,11 +80,13 @@ impl Running {
         cache: &mut Cache,
         gate: &G,
     ) -> Result<(), Why>
-        requires { IsRunning self.old }
+        requires running { IsRunning self.old }
+        requires mark { MarkHolds self.old.latest (held cache.old) }
         ensures runs { RunsLine (plain_line line.now) (versions_in self.old) (versions_in self.new) result }
         ensures running { OnOk result (IsRunning self.new) }
         ensures cache { OnOk result (LineCached (plain_line line.now) (versions_in self.old)
             (versions_in self.new) (held cache.old) (held cache.new)) }
+        ensures mark { OnOk result (MarkHolds self.new.latest (held cache.new)) }
     {
         let read = read_line(alloc, line)?;
         match read {

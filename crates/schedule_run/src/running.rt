@@ -1,18 +1,25 @@
 //! Versions while lines run.
-ghost use Rattle.std.specs.Prelude.{◌≡◌, ◌+◌, ◌^◌, true, nat_le, [], ◌∷◌, map, length, Some};
-ghost use Rattle.std.specs.Prelude.{slice_get, IfOk, OnOk};
-ghost use Rattle.exo_tree.specs.Tree.{Procedure};
+ghost use Rattle.std.specs.Prelude.{◌≡◌, ◌+◌, ◌^◌, true, nat_le, [], ◌∷◌, List, map, length, Some};
+ghost use Rattle.std.specs.Prelude.{None, slice_get, IfOk, OnOk, IfSome};
+ghost use Rattle.exo_tree.specs.Tree.{Procedure, Program};
 ghost use Rattle.exo_tree.specs.PlainProcedure.{procedure};
 ghost use Rattle.exo_tree.specs.PlainUnit.{program};
 ghost use Rattle.exo_meaning.specs.Units.{IsUnit};
+ghost use Rattle.affine_forms.specs.Affine.{Constraints};
 ghost use Rattle.affine_systems.specs.Outcomes.{plain_obligation};
-ghost use Rattle.bounds_check.specs.Obligations.{obligations_of};
+ghost use Rattle.affine_prover.specs.declared.answer.Verdict.{Verdict};
+ghost use Rattle.ob_check.specs.Entries.{discharged};
 ghost use Rattle.ob_check.specs.Held.{held};
-ghost use Rattle.unit_check.specs.Cached.{discharged_all};
+ghost use Rattle.ob_check.specs.Settled.{knows_all};
+ghost use Rattle.ob_check.specs.Systems.{systems_of};
+ghost use Rattle.unit_check.specs.Cached.{discharged_all, systems_in};
+ghost use Rattle.unit_check.specs.Checked.{first_open};
+ghost use Rattle.unit_check.specs.Outcomes.{Shows};
 ghost use Rattle.config_live.specs.Origins.{origin};
 ghost use Rattle.config_live.specs.Places.{side_taken};
 ghost use Rattle.cursor_forward.specs.PlainCursor.{plain_side};
 ghost use Rattle.cursor_forward.specs.PlainProposal.{plain_proposal};
+ghost use Rattle.cursor_forward.specs.Proposals.{Plan};
 ghost use Rattle.made_trees.specs.Ids as ids;
 ghost use Rattle.step_rules.specs.Lawful.{config_side};
 ghost use Rattle.tree_laws.specs.Findings.Versions as longer;
@@ -22,10 +29,12 @@ ghost use Rattle.schedule_laws.specs.Versions.Versions.{made_of, started};
 ghost use Rattle.schedule_laws.specs.Versions.Lines.{Apply, performed};
 ghost use Rattle.schedule_laws.specs.Operators.Operators.{call_of};
 ghost use Rattle.schedule_run.specs.Cached.{lists_for, lists_of};
+ghost use Rattle.schedule_run.specs.Follows.{ComesOf, Follows};
 ghost use Rattle.schedule_run.specs.Outcomes.{Makes, Performs};
 ghost use Rattle.schedule_run.specs.Planned as plans;
 ghost use Rattle.schedule_run.specs.Planned.{has_form, planned_of, stepped, owed_with};
-ghost use Rattle.schedule_run.specs.Running.{IsRunning, versions_in};
+ghost use Rattle.schedule_run.specs.Running.{AreKept, AreSettled, Counts, IsListed, IsRunning};
+ghost use Rattle.schedule_run.specs.Running.{MarkHolds, versions_in};
 
 use crate::binding::let_go;
 use crate::fields::is_formed;
@@ -34,29 +43,50 @@ use crate::session::{Session, number_of};
 use crate::why::Why;
 use crate::writes::{add_writes, writes_of};
 use affine_systems::Obligation;
-use bounds_check::obligations_with_tables;
+use bounds_check::{CheckError, obligations_with_tables};
 use config_live::{FieldList, Origin};
 use config_state::FieldTable;
 use cursor_forward::{Proposal, Side};
 use exo_modes::ModeTable;
 use exo_tree::{Proc, ProcId, Unit};
 use made_trees::next_id;
+use ob_check::laws::known_lists_settle;
 use ob_check::{Cache, Gate};
+use owed_laws::laws::{own_names_stay, renamed_versions_owe_the_same};
 use schedule_calls::Operation;
 use std::alloc::{AllocError, Global};
 use std::thread::Threads;
 use step_driver::Target;
 use step_rules::laws::proposals_are_kept;
 use text_lexer::text::Text;
+use tree_laws::findings::laws::procedures_keep_rules;
 use unit_check::show;
 
+/// What the latest version owes that a step made.
+#[derive(Drop)]
+pub(crate) struct Latest {
+    pub version: ProcId,
+    pub owed: Vec<Obligation>,
+    /// Discharging the list once more leaves the cache as it is.
+    pub settled: bool,
+}
+
+/// How many obligations were shown, and whether the list of the version that comes is settled now.
+#[derive(Clone, Copy, Drop)]
+pub(crate) struct Tally {
+    pub count: u64,
+    pub settled: bool,
+}
+
 /// Versions, with the tables that steps need: how each procedure touches its buffers, and which
-/// fields it may write. Nothing of a version is copied when another one comes.
+/// fields it may write; and with what the latest version owes, since it owes the same under another
+/// name. Nothing of a version is copied when another one comes.
 #[derive(Drop)]
 pub(crate) struct Running {
     pub session: Session,
     pub modes: ModeTable,
     pub writes: FieldTable,
+    pub latest: Option<Latest>,
 }
 
 /// Whether there is a number left for one procedure more, and ids for a step on this one.
@@ -73,6 +103,7 @@ impl Running {
         requires { IsUnit (program unit) }
         ensures versions { IfOk result (λ r. versions_in r ≡ started (program unit) shown) }
         ensures running { IfOk result IsRunning }
+        ensures latest { IfOk result (λ r. r.latest ≡ None) }
     {
         let modes = ModeTable::new(alloc, &unit)?;
         let writes = writes_of(alloc, &unit)?;
@@ -81,7 +112,29 @@ impl Running {
             session,
             modes,
             writes,
+            latest: None,
         })
+    }
+
+    /// Whether an operation on version `k` gives the latest version another name alone.
+    fn renames_latest(&self, k: ProcId, operation: &Operation<'_>) -> bool
+        requires { IsRunning self.now }
+        ensures { result ≡ true → IfSome self.now.latest (λ l.
+            (m : Plan)
+            → planned_of (versions_in self.now) (call_of (plain_operation operation.now)) k.0
+            ≡ plans.Got m
+            → AreKept l.owed.items (with_version (program self.now.session.unit) m.proc) m.proc) }
+    {
+        renamed_versions_owe_the_same();
+        own_names_stay();
+        procedures_keep_rules();
+        let Operation::Rename(_) = operation else {
+            return false;
+        };
+        match &self.latest {
+            Some(latest) => latest.version.0 == k.0,
+            None => false,
+        }
     }
 
     /// What an operation makes of version `k`. Without room for a step it is answered as want of
@@ -94,6 +147,8 @@ impl Running {
             (call_of (plain_operation operation.now)) k.0) result }
         ensures kept { IfOk result (λ m.
             IsUnit (with_version (program self.now.session.unit) (procedure m.proc))) }
+        ensures comes { IfOk result (λ m.
+            ComesOf (program self.now.session.unit) k.0 (procedure m.proc)) }
     {
         proposals_are_kept();
         let Some(proc) = self.session.unit.procs.get(k.0 as usize) else {
@@ -123,6 +178,7 @@ impl Running {
             { unit = with_version (program self.old.session.unit) (procedure proc) }) }
         ensures running { OnOk result (IsRunning self.new) }
     {
+        self.latest = None;
         let number = number_of(self.session.unit.procs.len())?;
         add_writes(
             alloc,
@@ -135,27 +191,47 @@ impl Running {
         Ok(number)
     }
 
-    /// Shows what is owed for a step and then what its result owes, and counts both.
-    fn shown<R: Threads + Sync, G: Gate>(
+    /// What version `p` owes, which was made of version `k`: if it is the latest one before it
+    /// under another name, the same; if it differs from that one in one store, only what this owes
+    /// is listed anew.
+    fn listed(
         &self,
-        rt: &R,
         alloc: Global,
         p: ProcId,
-        must: &[Obligation],
-        cache: &mut Cache,
-        gate: &G,
-    ) -> Result<u64, Why>
-        requires { IsRunning self.now }
-        ensures exact { (q : Procedure) → slice_get (program self.now.session.unit).procedures p.0 ≡ Some q →
-            Makes (λ n.
-            n) (owed_with (program self.now.session.unit) (map plain_obligation must.now) q) result }
-        ensures cache { (q : Procedure)
+        k: ProcId,
+        renames: bool,
+        latest: Option<Latest>,
+    ) -> Result<Latest, CheckError>
+        requires running { IsRunning self.now }
+        requires renames { renames ≡ true → IfSome latest (λ l.
+            (q : Procedure) → slice_get (program self.now.session.unit).procedures p.0 ≡ Some q
+            → AreKept l.owed.items (program self.now.session.unit) q) }
+        requires follows { IfSome latest (λ l. l.version.0 ≡ k.0 → (q : Procedure)
             → slice_get (program self.now.session.unit).procedures p.0 ≡ Some q
-            → OnOk result (held cache.new ≡ discharged_all (held cache.old)
-            (map plain_obligation must.now
-            ∷ obligations_of (program self.now.session.unit) q
-            ∷ [])) }
+            → Follows l.owed.items k.0 (program self.now.session.unit) q) }
+        ensures listed { (q : Procedure)
+            → slice_get (program self.now.session.unit).procedures p.0 ≡ Some q
+            → IsListed result (program self.now.session.unit) q }
+        ensures version { IfOk result (λ l. l.version ≡ p) }
+        ensures mark { (es : List (Constraints × Verdict)) → MarkHolds latest es
+            → IfOk result (λ l. l.settled ≡ true → AreSettled l.owed.items es) }
     {
+        if renames {
+            if let Some(latest) = latest {
+                return Ok(Latest {
+                    version: p,
+                    owed: latest.owed,
+                    settled: latest.settled,
+                });
+            }
+        }
+        if let Some(owed) = self.with_store(alloc, p, k, latest) {
+            return Ok(Latest {
+                version: p,
+                owed,
+                settled: false,
+            });
+        }
         let owed = obligations_with_tables(
             alloc,
             &self.session.unit,
@@ -163,12 +239,15 @@ impl Running {
             &self.modes,
             p,
         )?;
-        show(rt, alloc, must, cache, gate)?;
-        show(rt, alloc, &owed, cache, gate)?;
-        total(must.len(), owed.len())
+        Ok(Latest {
+            version: p,
+            owed,
+            settled: false,
+        })
     }
 
-    /// Puts what a step made of version `k` behind the versions, where all that it owes is shown.
+    /// Puts what a step made of version `k` behind the versions, where all that it owes is shown;
+    /// `renames`: it is the latest version under another name.
     fn add<R: Threads + Sync, G: Gate>(
         &mut self,
         rt: &R,
@@ -176,11 +255,18 @@ impl Running {
         bind: &Text,
         k: ProcId,
         made: Proposal,
+        renames: bool,
         cache: &mut Cache,
         gate: &G,
     ) -> Result<(), Why>
         requires running { IsRunning self.old }
         requires kept { IsUnit (with_version (program self.old.session.unit) (procedure made.proc)) }
+        requires renames { renames ≡ true → IfSome self.old.latest (λ l.
+            AreKept l.owed.items
+            (with_version (program self.old.session.unit) (procedure made.proc))
+            (procedure made.proc)) }
+        requires comes { ComesOf (program self.old.session.unit) k.0 (procedure made.proc) }
+        requires mark { MarkHolds self.old.latest (held cache.old) }
         ensures performs { Performs
             (stepped (versions_in self.old) bind.now k.0 (plans.Got (plain_proposal made)))
             (versions_in self.new) result }
@@ -188,6 +274,7 @@ impl Running {
         ensures cache { OnOk result (held cache.new
             ≡ discharged_all (held cache.old)
             (lists_for (versions_in self.old) (plain_proposal made))) }
+        ensures mark { OnOk result (MarkHolds self.new.latest (held cache.new)) }
     {
         let origin = origin_of(alloc, k, &made)?;
         let Proposal {
@@ -196,9 +283,17 @@ impl Running {
             edits,
             ..
         } = made;
+        let before = self.latest.take();
         let number = self.push(alloc, proc)?;
-        let shown = self.shown(rt, alloc, number, &must, cache, gate)?;
-        self.session.add(alloc, bind, number, origin, edits, shown)?;
+        let listed = self.listed(alloc, number, k, renames, before)?;
+        let done = shown(rt, alloc, &must, &listed, renames, cache, gate)?;
+        self.session
+            .add(alloc, bind, number, origin, edits, done.count)?;
+        self.latest = Some(Latest {
+            version: listed.version,
+            owed: listed.owed,
+            settled: done.settled,
+        });
         Ok(())
     }
 
@@ -215,12 +310,14 @@ impl Running {
     ) -> Result<(), Why>
         requires running { IsRunning self.old }
         requires form { has_form (plain_operation operation.now) ≡ true }
+        requires mark { MarkHolds self.old.latest (held cache.old) }
         ensures performs { Performs
             (performed (versions_in self.old) (Apply bind.now of.now (call_of (plain_operation operation.now)))) (versions_in self.new) result }
         ensures running { OnOk result (IsRunning self.new) }
         ensures cache { OnOk result (held cache.new
             ≡ discharged_all (held cache.old) (lists_of (versions_in self.old)
             (Apply bind.now of.now (call_of (plain_operation operation.now))))) }
+        ensures mark { OnOk result (MarkHolds self.new.latest (held cache.new)) }
     {
         if !is_formed(&self.session, operation) {
             return Err(Why::BadArguments);
@@ -228,8 +325,9 @@ impl Running {
         let Some(k) = self.session.version_of(of.as_slice()) else {
             return Err(Why::UnknownProc);
         };
+        let renames = self.renames_latest(k, operation);
         let made = self.plan(alloc, k, operation)?;
-        self.add(rt, alloc, bind, k, made, cache, gate)
+        self.add(rt, alloc, bind, k, made, renames, cache, gate)
     }
 
     /// The same; the operation goes.
@@ -245,12 +343,14 @@ impl Running {
     ) -> Result<(), Why>
         requires running { IsRunning self.old }
         requires form { has_form (plain_operation operation) ≡ true }
+        requires mark { MarkHolds self.old.latest (held cache.old) }
         ensures performs { Performs
             (performed (versions_in self.old) (Apply bind.now of.now (call_of (plain_operation operation.entry)))) (versions_in self.new) result }
         ensures running { OnOk result (IsRunning self.new) }
         ensures cache { OnOk result (held cache.new
             ≡ discharged_all (held cache.old) (lists_of (versions_in self.old)
             (Apply bind.now of.now (call_of (plain_operation operation.entry))))) }
+        ensures mark { OnOk result (MarkHolds self.new.latest (held cache.new)) }
     {
         let done = self.apply(rt, alloc, bind, of, &operation, cache, gate);
         let_go(operation);
@@ -289,4 +389,72 @@ fn total(a: usize, b: usize) -> Result<u64, Why>
         Some(sum) => Ok(sum as u64),
         None => Err(Why::Memory),
     }
+}
+
+/// Whether a settled list is all that is owed.
+fn is_settled(must: &[Obligation], latest: &Latest) -> bool
+    ensures none { result ≡ true → length must.now ≡ 0 }
+    ensures settled { result ≡ true → latest.now.settled ≡ true }
+{
+    must.is_empty() && latest.settled
+}
+
+/// Whether a list comes again and the cache knows each of its systems.
+fn is_known(again: bool, obs: &[Obligation], cache: &Cache) -> bool
+    ensures { result ≡ true → knows_all (held cache.now) (systems_of obs.now) ≡ true }
+{
+    again && cache.knows_all(obs)
+}
+
+/// Shows a list, which comes again or not; one that is settled is not looked up. The result says
+/// whether it is settled now.
+fn show_list<R: Threads + Sync, G: Gate>(
+    rt: &R,
+    alloc: Global,
+    owed: &[Obligation],
+    settled: bool,
+    again: bool,
+    cache: &mut Cache,
+    gate: &G,
+) -> Result<bool, unit_check::Why>
+    requires { settled ≡ true → AreSettled owed.now (held cache.old) }
+    ensures exact { Shows result (first_open (map plain_obligation owed.now)) }
+    ensures cache { OnOk result (held cache.new
+        ≡ discharged (held cache.old) (systems_in (map plain_obligation owed.now))) }
+    ensures settled { IfOk result (λ b. b ≡ true → AreSettled owed.now (held cache.new)) }
+{
+    known_lists_settle();
+    if settled {
+        return Ok(true);
+    }
+    let known = is_known(again, owed, cache);
+    match show(rt, alloc, owed, cache, gate) {
+        Ok(()) => Ok(known),
+        Err(why) => Err(why),
+    }
+}
+
+/// Shows what is owed for a step and then what its result owes, a list that comes again or not.
+fn shown<R: Threads + Sync, G: Gate>(
+    rt: &R,
+    alloc: Global,
+    must: &[Obligation],
+    latest: &Latest,
+    again: bool,
+    cache: &mut Cache,
+    gate: &G,
+) -> Result<Tally, Why>
+    requires { latest.now.settled ≡ true → AreSettled latest.now.owed.items (held cache.old) }
+    ensures exact { (u : Program) (q : Procedure) → AreKept latest.now.owed.items u q →
+        Counts (owed_with u (map plain_obligation must.now) q) result }
+    ensures cache { OnOk result (held cache.new ≡ discharged_all (held cache.old)
+        (map plain_obligation must.now ∷ map plain_obligation latest.now.owed.items ∷ [])) }
+    ensures settled { IfOk result (λ t.
+        t.settled ≡ true → AreSettled latest.now.owed.items (held cache.new)) }
+{
+    let alone = is_settled(must, latest);
+    show(rt, alloc, must, cache, gate)?;
+    let settled = show_list(rt, alloc, &latest.owed, alone, again, cache, gate)?;
+    let count = total(must.len(), latest.owed.len())?;
+    Ok(Tally { count, settled })
 }

@@ -18,7 +18,8 @@ fn same_cells(one: Cell, other: Cell) -> bool
     one == other
 }
 
-fn same_control(a: &Ctrl, b: &Ctrl) -> bool
+/// Whether two control expressions are the same.
+pub fn same_control(a: &Ctrl, b: &Ctrl) -> bool
     ensures { result ≡ plain.same_control (control a.now) (control b.now) }
 {
     match (a, b) {
@@ -46,7 +47,8 @@ fn same_controls(one: &[Ctrl], other: &[Ctrl]) -> bool
     }
 }
 
-fn same_condition(a: &Cond, b: &Cond) -> bool
+/// Whether two conditions are the same.
+pub fn same_condition(a: &Cond, b: &Cond) -> bool
     ensures { result ≡ plain.same_condition (condition a.now) (condition b.now) }
 {
     match (a, b) {
@@ -129,8 +131,9 @@ fn same_arguments(one: &[Arg], other: &[Arg]) -> bool
     }
 }
 
+/// Whether two statements are the same but for the names of binders.
 #[cycle(same)]
-fn same_statement(a: &Stmt, b: &Stmt) -> bool
+pub fn same_statement(a: &Stmt, b: &Stmt) -> bool
     ensures { result ≡ plain.same_statement (statement a.now) (statement b.now) }
 {
     match (a, b) {

@@ -10,7 +10,9 @@ use Rattle.bounds_check.proofs.list.obligations_of_claims.Goals as goal
 pub loop-first-init : goal.loop-first-init
 loop-first-init c = record {
   goes = c.new-cursor.ensures;
-  left = onward_all (program c.args.site.now.unit.now) (procedure c.args.site.now.proc.now) c.new-out.result (map placed c.args.claims.now) c.new-out.ensures c.requires.claims c.requires.owable;
+  left =
+      onward_all (program c.args.site.now.unit.now) (procedure c.args.site.now.proc.now)
+      (map placed c.args.claims.now) c.new-out.result c.new-out.ensures c.requires.owable;
 }
 
 pub split_at-requires : goal.split_at-requires
@@ -35,14 +37,14 @@ put_claims-requires-clause-rules c =
     let here = c.split_at.result.0.now in
     let others = c.split_at.result.1.now in
     let split : map placed c.loop-first.rest.now ≡ map placed here ++ map placed others = ap (map placed) c.split_at.ensures.by_index.0 ∙ map-append placed here others in
-    rules_here (program c.args.site.now.unit.now) (procedure c.args.site.now.proc.now) c.loop-first.out (map placed c.loop-first.rest.now) (map placed here) (map placed others) c.loop-first.invariant.left split
+    rules_here (program c.args.site.now.unit.now) (procedure c.args.site.now.proc.now) (map placed c.args.claims.now) c.loop-first.out (map placed c.loop-first.rest.now) (map placed here) (map placed others) c.loop-first.invariant.left split
 
 pub returns-in_err-put_claims : goal.returns-in_err-put_claims
 returns-in_err-put_claims c =
     let here = c.split_at.result.0.now in
     let others = c.split_at.result.1.now in
     let split : map placed c.loop-first.rest.now ≡ map placed here ++ map placed others = ap (map placed) c.split_at.ensures.by_index.0 ∙ map-append placed here others in
-    onward_refused (program c.args.site.now.unit.now) (procedure c.args.site.now.proc.now) c.loop-first.out (map placed c.loop-first.rest.now) (map placed here) (map placed others) c.loop-first.invariant.left split c.from_residual.result c.in_err-put_claims.field-0.0 c.from_residual.ensures.1
+    onward_refused (program c.args.site.now.unit.now) (procedure c.args.site.now.proc.now) (map placed c.args.claims.now) c.loop-first.out (map placed c.loop-first.rest.now) (map placed here) (map placed others) c.loop-first.invariant.left split c.from_residual.result c.in_err-put_claims.field-0.0 c.from_residual.ensures.1
     c.in_err-put_claims.ensures.owes
 
 pub loop-first-smaller : goal.loop-first-smaller
@@ -59,7 +61,7 @@ loop-first-preserved c =
     record {
       goes = c.in_ok-put_claims.ensures.same ∙ c.loop-first.invariant.goes;
       left =
-          onward_more (program c.args.site.now.unit.now) (procedure c.args.site.now.proc.now) c.loop-first.out (map placed c.loop-first.rest.now) (map placed here) (map placed others) c.loop-first.invariant.left split c.put_claims.new.out
+          onward_more (program c.args.site.now.unit.now) (procedure c.args.site.now.proc.now) (map placed c.args.claims.now) c.loop-first.out (map placed c.loop-first.rest.now) (map placed here) (map placed others) c.loop-first.invariant.left split c.put_claims.new.out
           c.in_ok-put_claims.ensures.owes;
     }
 
@@ -67,6 +69,7 @@ pub returns : goal.returns
 returns c =
     let u = program c.args.site.now.unit.now in
     let p = procedure c.args.site.now.proc.now in
-    let left = subst (λ xs. Onward u p c.loop-first.out (map placed xs)) (none_left c.loop-first.rest.now (sym c.in_default.ensures.value)) c.loop-first.invariant.left in
-    let w = onward_none u p c.loop-first.out left in
+    let whole = map placed c.args.claims.now in
+    let left = subst (λ xs. Onward u p whole c.loop-first.out (map placed xs)) (none_left c.loop-first.rest.now (sym c.in_default.ensures.value)) c.loop-first.invariant.left in
+    let w = onward_none u p whole c.loop-first.out left in
     (w.0, c.into_items.ensures ∙ w.1)

@@ -1,6 +1,13 @@
-use Rattle.std.proofs.Common.{rules, ◌≡◌, Some, slice_get}
+use Rattle.std.proofs.Common.{rules, ◌≡◌, Option, Some, map, slice_get, sym, ap, ◌∙◌, subst}
+use Rattle.std.specs.List.{list_all}
+use Rattle.exo_tree.specs.Tree.{Procedure}
 use Rattle.exo_tree.specs.PlainProcedure.{procedure}
 use Rattle.exo_tree.specs.PlainUnit.{program}
+use Rattle.check_claims.specs.Claims.{claims_of}
+use Rattle.check_claims.specs.PlainClaim.{placed}
+use Rattle.bounds_check.specs.Laws.{may_be_owed}
+use Rattle.bounds_check.specs.Outcomes.{AreObligationsIn}
+use Rattle.bounds_check.proofs.Groups.{all_owed}
 use Rattle.bounds_check.proofs.WellFormed.{walked, unit_formed, few_fields, extents_there}
 use Rattle.bounds_check.proofs.list.obligations_with_tables.Goals as goal
 
@@ -26,5 +33,18 @@ obligations_of_claims-requires-clause-site c =
 
 pub obligations_of_claims-requires-clause-owable : goal.obligations_of_claims-requires-clause-owable
 obligations_of_claims-requires-clause-owable c =
-    let found : slice_get (program c.args.unit.now).procedures c.args.p.0 ≡ Some (procedure c.in-Some.proc.now) = search rules in
-    c.claims_may_be_owed.ensures (program c.args.unit.now) c.args.p.0 (procedure c.in-Some.proc.now) c.requires.unit found
+    let u = program c.args.unit.now in
+    let p = procedure c.in-Some.proc.now in
+    let found : slice_get u.procedures c.args.p.0 ≡ Some p = search rules in
+    let all : map placed c.deref.result.now ≡ claims_of u p = search rules in
+    ap (list_all (may_be_owed p)) all ∙ c.claims_may_be_owed.ensures u c.args.p.0 p c.requires.unit found
+
+pub returns-in_ok-claims-in-Some : goal.returns-in_ok-claims-in-Some
+returns-in_ok-claims-in-Some c =
+    let u = program c.args.unit.now in
+    let p = procedure c.in-Some.proc.now in
+    let found : slice_get u.procedures c.args.p.0 ≡ Some p = search rules in
+    let all : map placed c.deref.result.now ≡ claims_of u p = search rules in
+    let answer = c.obligations_of_claims.result in
+    subst (λ (o : Option Procedure). AreObligationsIn answer u o) (sym found)
+    (all_owed u p (map placed c.deref.result.now) answer all c.obligations_of_claims.ensures)

@@ -1,11 +1,13 @@
-use Rattle.std.proofs.Common.{◌≤◌, ◌<◌, List, map, length, sym, subst, arith}
+use Rattle.std.proofs.Common.{◌≤◌, ◌<◌, List, Option, map, length, sym, subst, arith}
 use Rattle.exo_tree.specs.PlainUnit.{program}
 use Rattle.schedule_text.specs.Tree as tree
 use Rattle.schedule_text.specs.Views.{plain_line}
 use Rattle.schedule_laws.specs.Versions.Versions.{started}
 use Rattle.schedule_laws.specs.Versions.Lines.{Done}
 use Rattle.schedule_run.specs.Runs.{LinesRun, ends}
-use Rattle.schedule_run.specs.Running.{versions_in}
+use Rattle.ob_check.specs.Held.{held}
+use Rattle.schedule_run.specs.Running.{MarkHolds, versions_in}
+use Rattle.schedule_run.specs.declared.running.Latest.{Latest}
 use Rattle.schedule_run.proofs.Going.{dropped, past_all, goes_on, refused_runs}
 use Rattle.schedule_run.proofs.Caching.{none_dropped, first_cached, line_behind, lines_cached}
 use Rattle.schedule_run.proofs.run.run_schedule.Goals as goal
@@ -29,6 +31,9 @@ loop-index-init g c =
     let is = c.in-Ok.ensures.versions in
     record {
       running = c.in-Ok.ensures.running;
+      mark =
+          subst (λ (o : Option Latest). MarkHolds o (held c.args.cache.now))
+          (sym c.in-Ok.ensures.latest) tt;
       rest = λ end h.
           subst (λ v. LinesRun 0 lines v end) is
           (subst (λ l. LinesRun 0 l (versions_in c.in-Ok.running) end) (none_dropped lines) h);
@@ -44,6 +49,7 @@ loop-index-preserved g c =
     let less : k < length items = omega (arith, c.loop-index-test.true) in
     record {
       running = c.in_default.ensures.running;
+      mark = c.in_default.ensures.mark;
       rest = λ end h.
           c.loop-index.invariant.rest end
           (goes_on k lines (plain_line line) (versions_in c.loop-index.running)

@@ -1,5 +1,6 @@
 use Rattle.std.proofs.Common.{◌≡◌, List, Some, sym, ap, ◌∙◌, subst}
 use Rattle.std.specs.Prelude.{OnOk}
+use Rattle.std.proofs.lemmas.Option.{IfSome_then}
 use Rattle.affine_systems.specs.Outcomes.{Owed}
 use Rattle.ob_check.specs.Held.{held}
 use Rattle.unit_check.specs.Cached.{discharged_all}
@@ -58,3 +59,8 @@ returns-clause-cache g c =
     lists_are v name of call k m there c.in_ok-made.ensures.made in
     subst (λ (ls : List (List Owed)). OnOk c.add.result (held c.add.new.cache ≡ discharged_all (held c.args.cache.now) ls))
     (sym are) c.add.ensures.cache
+
+pub add-requires-clause-renames : goal.add-requires-clause-renames
+add-requires-clause-renames g c κs within = λ is.
+    IfSome_then c.args.self.now.latest (c.renames_latest-renames.ensures is)
+    (λ l kept. kept (plain_proposal c.in_ok-made.made) c.in_ok-made.ensures.made)

@@ -1,0 +1,8 @@
+use Rattle.std.proofs.Common.{not}
+use Rattle.affine_systems.specs.Outcomes.{plain_obligation}
+use Rattle.owed_laws.specs.Stores.{stands_at}
+use Rattle.schedule_run.proofs.Counted.{PassedOver}
+use Rattle.schedule_run.proofs.splicing.count_there.Given as goal
+
+abbrev pub invariant-loop-k : goal.invariant-loop-k
+invariant-loop-k l = PassedOver plain_obligation (λ o. not (stands_at l.path o)) l.kept l.k
