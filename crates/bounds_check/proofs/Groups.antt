@@ -71,11 +71,22 @@ module _ {A B : Type 0} (f : A → B) (p : B → Bool) where
   pub counted_pass : (xs front : List A) (n : ℕ) → n ≡ position_or_len (λ b. not (p b)) (map f xs) → front ≡ take n xs → list_all p (map f front) ≡ true
   counted_pass xs front n e h = ap (λ ys. list_all p (map f ys)) (h ∙ ap (λ m. take m xs) e) ∙ counted_front xs
 
+-- ---- rules
+
+-- claims that may be owed keep the rules
+pub rules_of : (p : Procedure) (cs : List Placed) → list_all (may_be_owed p) cs ≡ true
+    → list_all (λ c. claim_keeps_rules c.claim) cs ≡ true
+rules_of p [] h = refl
+rules_of p (c ∷ cs) h =
+    let q = and_parts (may_be_owed p c) (list_all (may_be_owed p) cs) h in
+    and_from (claim_keeps_rules c.claim) (list_all (λ d. claim_keeps_rules d.claim) cs)
+    (and_parts (claim_keeps_rules c.claim) (is_place_of c.place p) q.0).0 (rules_of p cs q.1)
+
 -- ---- faults of lists in two parts
 
 module _ (u : Program) (p : Procedure) where
   -- the second part begins behind what the first owes
-  faults_on : (os : List Owed) (xs ys : List Placed) → first_fault u p os xs ≡ None → first_fault u p os (xs ++ ys) ≡ first_fault u p (os ++ owed_for_all u p xs) ys
+  pub faults_on : (os : List Owed) (xs ys : List Placed) → first_fault u p os xs ≡ None → first_fault u p os (xs ++ ys) ≡ first_fault u p (os ++ owed_for_all u p xs) ys
   faults_on os [] ys h = ap (λ l. first_fault u p l ys) (sym (append-nil os))
   faults_on os (c ∷ xs) ys h = go (claim_fault u p c) (are_within (os ++ owed_for u p c)) h (faults_on (os ++ owed_for u p c) xs ys)
     where
@@ -98,7 +109,7 @@ module _ (u : Program) (p : Procedure) where
       go None true k rest = rest k
       go None false k rest = k
 
-  refusal_stays : (e : CheckError) (os : List Owed) (xs ys : List Placed) → IsRefusal e (first_fault u p os xs) → IsRefusal e (first_fault u p os (xs ++ ys))
+  pub refusal_stays : (e : CheckError) (os : List Owed) (xs ys : List Placed) → IsRefusal e (first_fault u p os xs) → IsRefusal e (first_fault u p os (xs ++ ys))
   refusal_stays TooManyObligations os xs ys h = fault_stays os xs ys ManyObligations h
   refusal_stays (Form form.TooManyCases) os xs ys h = fault_stays os xs ys ManyCases h
   refusal_stays (Form form.SystemTooLarge) os xs ys h = fault_stays os xs ys LargeSystem h
@@ -150,14 +161,7 @@ module _ (u : Program) (p : Procedure) where
           go (Err y) w = subst (λ z. IsRefusal z (first_fault u p [] whole)) (sym w) refused
 
       pub rules_here : list_all (λ c. claim_keeps_rules c.claim) here ≡ true
-      rules_here = go here both_owable.0
-        where
-          go : (cs : List Placed) → list_all (may_be_owed p) cs ≡ true → list_all (λ c. claim_keeps_rules c.claim) cs ≡ true
-          go [] h = refl
-          go (c ∷ cs) h =
-              let q = and_parts (may_be_owed p c) (list_all (may_be_owed p) cs) h in
-              and_from (claim_keeps_rules c.claim) (list_all (λ d. claim_keeps_rules d.claim) cs)
-              (and_parts (claim_keeps_rules c.claim) (is_place_of c.place p) q.0).0 (go cs q.1)
+      rules_here = rules_of p here both_owable.0
 
     pub onward_none : (out : List Owed) → Onward out [] → (first_fault u p [] whole ≡ None) × (out ≡ owed_for_all u p whole)
     onward_none out left = (sym left.fault, sym (append-nil out) ∙ left.owed)

@@ -27,7 +27,7 @@ use Rattle.exo_effects.specs.Conflicts.{Listing, Lists, Refuses, clashing, past_
 use Rattle.exo_effects.specs.Limits as limits
 use Rattle.exo_effects.specs.Orders.{Order, no_order}
 use Rattle.exo_effects.specs.Uses.{Use, argument_at}
-use Rattle.bounds_check.specs.Obligations.{Fault, Wide, ManyCases, LargeSystem, ManyObligations, formula_at}
+use Rattle.bounds_check.specs.Obligations.{Fault, Wide, ManyCases, LargeSystem, formula_at}
 use Rattle.bounds_check.specs.Obligations.{argument_accesses, owed_for, owed_for_all, said_fits, claim_fits}
 use Rattle.bounds_check.specs.Obligations.{stated_fault, conflict_fault, listing_fault, unless_refused, said_fault, claim_fault}
 use Rattle.bounds_check.specs.Obligations.{first_fault}

@@ -5,7 +5,7 @@ use Rattle.std.proofs.Common.{ap, ◌∙◌, arith}
 use Rattle.std.specs.List.{list_all}
 use Rattle.std.proofs.lemmas.Bool.{and_parts}
 use Rattle.std.proofs.lemmas.List.Folds.{list_all-append}
-use Rattle.exo_tree.specs.Tree.{Statement, Assign, Reduce, Config, Pass, If, For, Alloc, View, Call}
+use Rattle.exo_tree.specs.Tree.{Statement, If, For}
 use Rattle.exo_tree.specs.Tree.{Binder, Control, Condition, Block, end, next, Procedure, Program}
 use Rattle.exo_tree.specs.Context.{After, InLoop, InThen, InElse}
 use Rattle.exo_tree.specs.Places as place

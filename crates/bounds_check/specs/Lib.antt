@@ -3,5 +3,7 @@ pub mod Errors
 pub mod Limits
 pub mod Obligations
 pub mod Outcomes
+pub mod Chunks
+pub mod Parts
 pub mod Sites
 pub mod Laws

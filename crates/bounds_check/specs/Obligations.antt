@@ -1,6 +1,6 @@
 -- What a procedure owes: for each of its claims, in text order, a system for each case in which the context of its place holds and
 -- the claim does not. The claim holds where none of its systems has an integer point.
-use Rattle.std.specs.Prelude.{ℕ, Bool, true, false, ◌&&◌, if◌then◌else◌, List, [], ◌∷◌, ◌++◌, map}
+use Rattle.std.specs.Prelude.{ℕ, Bool, true, ◌&&◌, if◌then◌else◌, List, [], ◌∷◌, ◌++◌, map}
 use Rattle.std.specs.Prelude.{flat_map, Option, Some, None}
 use Rattle.exo_tree.specs.Tree.{Condition, Procedure, Program}
 use Rattle.exo_tree.specs.Places.{Path, opened}

@@ -5,6 +5,8 @@ mod claims;
 mod error;
 pub mod laws;
 mod list;
+mod listing;
 
 pub use error::CheckError;
 pub use list::{obligations, obligations_there, obligations_with_tables};
+pub use listing::Listing;

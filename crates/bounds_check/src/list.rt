@@ -1,17 +1,22 @@
 //! The obligations of a procedure.
-ghost use Rattle.std.specs.Prelude.{◌≡◌, IsTrue, length, map, not, slice_get};
+ghost use Rattle.std.specs.Prelude.{◌≡◌, ◌<◌, true, All, IfOk, IsOk, IsTrue, flat_map};
+ghost use Rattle.std.specs.Prelude.{length, map, max, not, slice_get};
+ghost use Rattle.std.specs.Int.{div_ceil};
 ghost use Rattle.std.specs.List.{list_all, position_or_len};
 ghost use Rattle.exo_tree.specs.PlainProcedure.{procedure};
 ghost use Rattle.exo_tree.specs.PlainUnit.{program};
 ghost use Rattle.exo_meaning.specs.Units.{IsUnit};
 ghost use Rattle.meaning_laws.specs.UnitFields.{unit_writes};
 ghost use Rattle.config_state.specs.FieldSets.{IsTable};
+ghost use Rattle.affine_systems.specs.Limits.{are_within};
+ghost use Rattle.affine_systems.specs.Outcomes.{plain_obligation};
 ghost use Rattle.check_claims.specs.PlainClaim.{placed};
 ghost use Rattle.exo_modes.specs.Marks.{modes_of};
 ghost use Rattle.exo_modes.specs.Seen.{table_says};
 ghost use Rattle.bounds_check.specs.Paths.{same_path};
 ghost use Rattle.bounds_check.specs.Laws.{may_be_owed};
 ghost use Rattle.bounds_check.specs.Outcomes.{AreObligationsIn, AreOwedFor, AreOwedThere};
+ghost use Rattle.bounds_check.specs.Chunks.{listed_in};
 ghost use Rattle.bounds_check.specs.Sites.{IsSite};
 
 use crate::claims::{Site, put_claims};
@@ -26,6 +31,8 @@ use config_state::{FieldTable, written_table};
 use exo_modes::ModeTable;
 use exo_tree::{Path, Proc, ProcId, Unit};
 use std::alloc::Global;
+use std::thread;
+use std::thread::Threads;
 
 /// How many claims come before the first of another place.
 fn count_at(claims: &[Placed], place: &Path) -> usize
@@ -46,10 +53,10 @@ fn obligations_of_claims(
     claims: &[Placed],
 ) -> Result<Vec<Obligation>, CheckError>
     requires site { IsSite site.now }
-    requires owable { IsTrue (list_all (may_be_owed (procedure site.now.proc.now))
-        (map placed claims.now)) }
-    ensures { AreOwedFor result (program site.now.unit.now) (procedure site.now.proc.now)
-        (map placed claims.now) }
+    requires owable { IsTrue
+        (list_all (may_be_owed (procedure site.now.proc.now)) (map placed claims.now)) }
+    ensures { AreOwedFor result (program site.now.unit.now)
+        (procedure site.now.proc.now) (map placed claims.now) }
 {
     let mut cursor = Cursor::new(alloc, site.unit, site.proc, site.roots, site.writes);
     let mut out = OwedList::new(alloc);
@@ -62,9 +69,91 @@ fn obligations_of_claims(
     Ok(out.into_items())
 }
 
+/// How many claims a chunk has, but for the last one: a sixteenth of them, and at least 1,024,
+/// so that there are at most 16 chunks.
+fn chunk_size(claims: usize) -> usize
+    ensures { result ≡ max 1024 (div_ceil claims 16) }
+{
+    claims.div_ceil(16).max(1024)
+}
+
+/// The lists of chunks, one after the other. An error where one was refused, or where all together
+/// are too many.
+fn joined(
+    alloc: Global,
+    lists: Vec<Result<Vec<Obligation>, CheckError>>,
+) -> Result<Vec<Obligation>, CheckError>
+    ensures joined { IfOk result
+        (λ os. map plain_obligation os.items ≡ flat_map listed_in lists.items) }
+    ensures within { IfOk result (λ _. are_within (flat_map listed_in lists.items) ≡ true) }
+    ensures all { IfOk result (λ _. All IsOk lists.items) }
+{
+    let mut all = OwedList::new(alloc);
+    for list in lists {
+        all.push_all(list?)?;
+    }
+    Ok(all.into_items())
+}
+
+/// The obligations of claims of a procedure, so many claims at a time, each chunk in a thread of
+/// its own where one can be made. An error where a chunk is refused, or where all together are too
+/// many.
+fn listed_in_chunks<R: Threads + Sync>(
+    rt: &R,
+    alloc: Global,
+    site: &Site<'_, '_>,
+    claims: &[Placed],
+    size: usize,
+) -> Result<Vec<Obligation>, CheckError>
+    requires site { IsSite site.now }
+    requires owable { IsTrue
+        (list_all (may_be_owed (procedure site.now.proc.now)) (map placed claims.now)) }
+    requires size { 0 < size }
+    ensures { IfOk result (λ _. AreOwedFor result (program site.now.unit.now)
+        (procedure site.now.proc.now) (map placed claims.now)) }
+{
+    let lists = thread::map_chunks(
+        rt,
+        alloc,
+        claims,
+        size,
+        &|_, chunk|
+            requires { IsSite site.now × IsTrue
+                (list_all (may_be_owed (procedure site.now.proc.now)) (map placed chunk.now)) }
+            ensures { AreOwedFor result (program site.entry.now.unit.now)
+                (procedure site.entry.now.proc.now) (map placed chunk.entry.now) }
+        { obligations_of_claims(alloc, site, chunk) },
+    )?;
+    joined(alloc, lists)
+}
+
+/// The obligations of claims of a procedure. Many claims are listed in chunks; where one is
+/// refused, they are listed again in turn, so that the first fault is found.
+pub(crate) fn listed<R: Threads + Sync>(
+    rt: &R,
+    alloc: Global,
+    site: &Site<'_, '_>,
+    claims: &[Placed],
+) -> Result<Vec<Obligation>, CheckError>
+    requires site { IsSite site.now }
+    requires owable { IsTrue
+        (list_all (may_be_owed (procedure site.now.proc.now)) (map placed claims.now)) }
+    ensures { AreOwedFor result (program site.now.unit.now)
+        (procedure site.now.proc.now) (map placed claims.now) }
+{
+    let size = chunk_size(claims.len());
+    if size < claims.len() {
+        if let Ok(all) = listed_in_chunks(rt, alloc, site, claims, size) {
+            return Ok(all);
+        }
+    }
+    obligations_of_claims(alloc, site, claims)
+}
+
 /// The same as `obligations`, with the tables of the fields that each procedure of the unit may write, and of the modes in
 /// which each touches its buffers.
-pub fn obligations_with_tables(
+pub fn obligations_with_tables<R: Threads + Sync>(
+    rt: &R,
     alloc: Global,
     unit: &Unit,
     writes: &FieldTable,
@@ -72,7 +161,8 @@ pub fn obligations_with_tables(
     p: ProcId,
 ) -> Result<Vec<Obligation>, CheckError>
     requires unit { IsUnit (program unit.now) }
-    requires table { IsTable (length (program unit.now).fields) (unit_writes (program unit.now).procedures) writes.now }
+    requires table { IsTable (length (program unit.now).fields)
+        (unit_writes (program unit.now).procedures) writes.now }
     requires modes { table_says modes.now ≡ modes_of (program unit.now) }
     ensures { AreObligationsIn result (program unit.now) (slice_get (program unit.now).procedures p.0) }
 {
@@ -89,7 +179,7 @@ pub fn obligations_with_tables(
                 roots: &roots,
                 writes,
             };
-            obligations_of_claims(alloc, &site, &claims)
+            listed(rt, alloc, &site, &claims)
         }
     }
 }
@@ -136,11 +226,16 @@ pub fn obligations_there(
 /// `Form` where a claim has no systems within the limits: `WideNumber` where a normal form of it or of its context is too
 /// wide, else `TooManyCases` where it has more than 64 cases, else `SystemTooLarge`. `TooManyObligations` where the list
 /// passes 65,536 obligations or 4,194,304 terms. The first claim that is refused decides, and of it `Form` comes first.
-pub fn obligations(alloc: Global, unit: &Unit, p: ProcId) -> Result<Vec<Obligation>, CheckError>
+pub fn obligations<R: Threads + Sync>(
+    rt: &R,
+    alloc: Global,
+    unit: &Unit,
+    p: ProcId,
+) -> Result<Vec<Obligation>, CheckError>
     requires { IsUnit (program unit.now) }
     ensures { AreObligationsIn result (program unit.now) (slice_get (program unit.now).procedures p.0) }
 {
     let writes = written_table(alloc, unit)?;
     let modes = ModeTable::new(alloc, unit)?;
-    obligations_with_tables(alloc, unit, &writes, &modes, p)
+    obligations_with_tables(rt, alloc, unit, &writes, &modes, p)
 }

@@ -1,6 +1,9 @@
 -- What holds of each entry of a cache, as its entries change.
-use Rattle.std.proofs.Common.{◌≡◌, inl, inr, Bool, true, List, Contains, All, sym, subst}
-use Rattle.std.proofs.lemmas.List.Elements.{All-contains}
+use Rattle.std.proofs.Common.{◌≡◌, inl, inr, Bool, true, List, [], ◌∷◌, Contains, All, sym, subst}
+use Rattle.std.specs.Prelude.{reverse}
+use Rattle.std.specs.List.{AllByRecursion}
+use Rattle.std.proofs.lemmas.List.{reverse-append}
+use Rattle.std.proofs.lemmas.List.Elements.{All-contains, All-push, All-from_recursion, recursion_from_All}
 use Rattle.lru.specs.LruCache.{LruCache, promoted, put_entries}
 use Rattle.lru.proofs.CallerLemmas.{Contains-promoted, Contains-put_entries}
 use Rattle.ob_check.proofs.Lists.{All-from_contains}
@@ -20,3 +23,11 @@ module _ {K V : Type 0} (P : K × V → Type 0) where
         | inr at ↦ same e.0 at.2
       ])
     ]
+
+module _ {X : Type 0} (P : X → Type 0) where
+  All-reverse_each : (xs : List X) → AllByRecursion P xs → All P (reverse xs)
+  All-reverse_each [] h = All-from_recursion P [] tt
+  All-reverse_each (x ∷ xs) h = subst (All P) (sym (reverse-append (x ∷ []) xs)) (All-push P (reverse xs) x (All-reverse_each xs h.1) h.0)
+
+  pub All-reverse : (xs : List X) → All P xs → All P (reverse xs)
+  All-reverse xs h = All-reverse_each xs (recursion_from_All P xs h)

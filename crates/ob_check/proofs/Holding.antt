@@ -27,7 +27,7 @@ constraints_decide s t =
     (Decides-and (s.variables == t.variables) (pointwise same_sum s.equations t.equations && pointwise same_sum s.rows t.rows) (Decides-eqb s.variables t.variables) (Decides-and (pointwise same_sum s.equations t.equations) (pointwise same_sum s.rows t.rows) (pointwise_decides sums_decide s.equations t.equations) (pointwise_decides sums_decide s.rows t.rows)))
 
 -- `==` on the program's systems is sameness of the constraints
-agree : (s t : System) → systems_equal s t ≡ same_system (plain_system s) (plain_system t)
+pub agree : (s t : System) → systems_equal s t ≡ same_system (plain_system s) (plain_system t)
 agree s t = same_from_decides (systems_equal s t) (same_system (plain_system s) (plain_system t)) (systems_decide s t) (constraints_decide (plain_system s) (plain_system t))
 
 abbrev pub as_held : List (System × Verdict) → List (Constraints × Verdict)

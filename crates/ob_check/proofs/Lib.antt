@@ -6,6 +6,9 @@ mod Entries
 mod Keyed
 mod Holding
 mod Truths
+mod Stack
+mod Keeping
+mod Parting
 mod Answering
 mod Looking
 mod Chunks

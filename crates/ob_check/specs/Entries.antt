@@ -28,6 +28,11 @@ is_missing es s = is_none (lookup (same_system s) es)
 unfoldable pub kept : List (Constraints × Verdict) → Constraints → List (Constraints × Verdict)
 kept es s = if is_small s then put_entries same_system (lru_cache es 1024) s (elimination s) else es
 
+-- an entry is put in as it stands
+abbrev pub put_back :
+    List (Constraints × Verdict) → Constraints × Verdict → List (Constraints × Verdict)
+put_back es e = put_entries same_system (lru_cache es 1024) e.0 e.1
+
 -- once a list of systems is discharged: each is looked up in order, and then those that were missing are kept in order
 abbrev pub discharged : List (Constraints × Verdict) → List Constraints → List (Constraints × Verdict)
 discharged es ss = fold kept (fold asked es ss) (filter (is_missing es) ss)

@@ -5,3 +5,4 @@ pub mod Held
 pub mod Settled
 pub mod Systems
 pub mod Answers
+pub mod Parts

@@ -37,9 +37,11 @@ pub struct Cache {
 }
 
 impl Cache {
-    ghost use Rattle.std.specs.Prelude.{◌≡◌, not, [], map, fold, IfOk, OnOk};
+    ghost use Rattle.std.specs.Prelude.{◌≡◌, not, [], List, IsTrue, map, fold, IfOk, OnOk};
+    ghost use Rattle.affine_forms.specs.Affine.{Constraints};
     ghost use Rattle.affine_forms.specs.System.{plain_system};
-    ghost use Rattle.ob_check.specs.Entries.{asked, is_missing, kept};
+    ghost use Rattle.ob_check.specs.Truth.{IsTrueOf, is_small};
+    ghost use Rattle.ob_check.specs.Entries.{asked, is_missing, kept, put_back};
     ghost use Rattle.ob_check.specs.Held.{held};
     ghost use Rattle.ob_check.specs.Settled.{knows_all};
     ghost use Rattle.ob_check.specs.Systems.{systems_of, system_known, system_found, was_missing};
@@ -49,7 +51,7 @@ impl Cache {
         ensures { IfOk result (λ c. held c ≡ []) }
     {
         let capacity = NonZeroUsize::new(CAPACITY).unwrap();
-        let verdicts = LruCache::new(alloc, capacity)?;
+        let verdicts = LruCache::sparse(alloc, capacity)?;
         Ok(Cache { verdicts })
     }
 
@@ -103,6 +105,33 @@ impl Cache {
     {
         for known in all {
             self.keep(alloc, known)?;
+        }
+        Ok(())
+    }
+
+    /// Puts in an entry that another cache held.
+    fn put_back(&mut self, system: System, verdict: Verdict) -> Result<(), AllocError>
+        requires is_true { IsTrueOf (plain_system system) verdict }
+        requires small { IsTrue (is_small (plain_system system)) }
+        ensures { OnOk result (held self.new
+            ≡ put_back (held self.old) (plain_system system, verdict)) }
+    {
+        self.verdicts.put(system, verdict)?;
+        Ok(())
+    }
+
+    /// Puts in what another cache holds, the oldest first: where that was empty and then kept the
+    /// verdicts on systems, this is the same as to keep them here.
+    pub(crate) fn put_all(&mut self, other: Cache) -> Result<(), AllocError>
+        ensures { (ss : List Constraints)
+            → held other ≡ fold kept [] ss
+            → OnOk result (held self.new ≡ fold kept (held self.old) ss) }
+    {
+        // the proof learns here that no two keys of the cache are equal
+        let _ = self.verdicts.len();
+        let Cache { verdicts } = other;
+        for (system, verdict) in verdicts {
+            self.put_back(system, verdict)?;
         }
         Ok(())
     }

@@ -11,8 +11,10 @@ mod gate;
 mod known;
 pub mod laws;
 mod obligations;
+mod parts;
 
 pub use answer::Answer;
 pub use cache::Cache;
 pub use gate::{Free, Gate};
-pub use obligations::{discharge, new_cache};
+pub use obligations::new_cache;
+pub use parts::{Parts, discharge};

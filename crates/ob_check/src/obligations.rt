@@ -1,20 +1,18 @@
-//! Lists of obligations.
-ghost use Rattle.std.specs.Prelude.{◌≡◌, [], map, drop, IfOk, OnOk};
+//! The answer on obligations that were looked up.
+ghost use Rattle.std.specs.Prelude.{◌≡◌, [], map, drop, IfOk};
 ghost use Rattle.affine_prover.specs.Elimination.{elimination};
 ghost use Rattle.ob_check.specs.Truth.{IsTrueOf};
-ghost use Rattle.ob_check.specs.Systems.{systems_of, system_found, system_known, missing_of, ComesFirst, own_count};
-ghost use Rattle.ob_check.specs.Entries.{discharged};
+ghost use Rattle.ob_check.specs.Systems.{system_found, system_known, missing_of, ComesFirst, own_count};
 ghost use Rattle.ob_check.specs.Held.{held};
 ghost use Rattle.ob_check.specs.Answers.{is_refused, answer_of, ShownHasNoPoint};
 
 use crate::answer::Answer;
 use crate::cache::Cache;
 use crate::decide::decide_all;
-use crate::found::{Found, looked_up, missing};
+use crate::found::{Found, missing};
 use crate::gate::Gate;
 use crate::known::Known;
 use affine_prover::Verdict;
-use affine_systems::Obligation;
 use std::alloc::{AllocError, Global};
 use std::thread::Threads;
 
@@ -52,7 +50,7 @@ fn own_count(found: &Found<'_>) -> usize
 }
 
 /// The answer on what was found, where the missing systems are decided in order.
-fn answer(found: &[Found<'_>], decided: &[Known<'_>]) -> Answer
+pub(crate) fn answer(found: &[Found<'_>], decided: &[Known<'_>]) -> Answer
     requires { map system_known decided.now ≡ missing_of found.now }
     ensures exact { result ≡ answer_of (map elimination (map system_found found.now)) }
     ensures shown { ShownHasNoPoint (map system_found found.now) result }
@@ -76,7 +74,7 @@ pub fn new_cache(alloc: Global) -> Result<Cache, AllocError>
 }
 
 /// Decides the systems that the cache did not know, in order.
-fn decide_missing<'a, R: Threads + Sync, G: Gate>(
+pub(crate) fn decide_missing<'a, R: Threads + Sync, G: Gate>(
     rt: &R,
     alloc: Global,
     found: &[Found<'a>],
@@ -86,27 +84,4 @@ fn decide_missing<'a, R: Threads + Sync, G: Gate>(
 {
     let missing = missing(alloc, found)?;
     decide_all(rt, alloc, &missing, gate)
-}
-
-/// Decides obligations: whether each system is shown to have no integer point, and else which is the first that is not.
-///
-/// Each system is looked up in the cache, in order. Those that it does not know are cut into chunks of a sixteenth of their
-/// number, rounded up, and at least 16. Each chunk is decided in a thread of its own, where one can be made, and else in
-/// turn; the gate is told before the work on a chunk. Then the cache keeps the verdicts on those of at most 64 rows and
-/// equations together, in order. Neither the threads nor what the cache held change the answer.
-pub fn discharge<R: Threads + Sync, G: Gate>(
-    rt: &R,
-    alloc: Global,
-    obs: &[Obligation],
-    cache: &mut Cache,
-    gate: &G,
-) -> Result<Answer, AllocError>
-    ensures exact { IfOk result (λ a. a ≡ answer_of (map elimination (systems_of obs.now))) }
-    ensures shown { IfOk result (ShownHasNoPoint (systems_of obs.now)) }
-    ensures held { OnOk result (held cache.new ≡ discharged (held cache.old) (systems_of obs.now)) }
-{
-    let found = looked_up(alloc, obs, cache)?;
-    let decided = decide_missing(rt, alloc, &found, gate)?;
-    cache.keep_all(alloc, &decided)?;
-    Ok(answer(&found, &decided))
 }

@@ -194,8 +194,9 @@ impl Running {
     /// What version `p` owes, which was made of version `k`: if it is the latest one before it
     /// under another name, the same; if it differs from that one in one store, only what this owes
     /// is listed anew.
-    fn listed(
+    fn listed<R: Threads + Sync>(
         &self,
+        rt: &R,
         alloc: Global,
         p: ProcId,
         k: ProcId,
@@ -233,6 +234,7 @@ impl Running {
             });
         }
         let owed = obligations_with_tables(
+            rt,
             alloc,
             &self.session.unit,
             &self.writes,
@@ -285,7 +287,7 @@ impl Running {
         } = made;
         let before = self.latest.take();
         let number = self.push(alloc, proc)?;
-        let listed = self.listed(alloc, number, k, renames, before)?;
+        let listed = self.listed(rt, alloc, number, k, renames, before)?;
         let done = shown(rt, alloc, &must, &listed, renames, cache, gate)?;
         self.session
             .add(alloc, bind, number, origin, edits, done.count)?;

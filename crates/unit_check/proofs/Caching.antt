@@ -1,5 +1,5 @@
 -- What the cache holds behind one list more.
-use Rattle.std.proofs.Common.{◌≡◌, ℕ, ◌+◌, ◌<◌, ◌≤◌, List, [], ◌∷◌, ◌++◌, map, take, length, Option, Some, Result, Ok, Err, OnOk, refl, sym, ap, ◌∙◌}
+use Rattle.std.proofs.Common.{◌≡◌, ℕ, ◌+◌, ◌<◌, ◌≤◌, List, [], ◌∷◌, ◌++◌, map, take, length, Some, Result, Ok, Err, OnOk, refl, sym, ap, ◌∙◌}
 use Rattle.std.specs.Prelude.{slice_get}
 use Rattle.std.proofs.lemmas.List.{map-append, take_all}
 use Rattle.exo_tree.specs.Tree.{Procedure, Program}
@@ -16,7 +16,8 @@ use Rattle.unit_check.proofs.Checking.{stands_at}
 abbrev Entries : Type 0
 Entries = List (Constraints × Verdict)
 
-plain_systems : (os : List Obligation) → systems_of os ≡ systems_in (map plain_obligation os)
+-- the systems of obligations in memory are those of the plain ones
+pub plain_systems : (os : List Obligation) → systems_of os ≡ systems_in (map plain_obligation os)
 plain_systems [] = refl
 plain_systems (o ∷ os) = ap (λ ss. (plain_obligation o).system ∷ ss) (plain_systems os)
 

@@ -9,3 +9,6 @@ pub mod Found
 pub mod Numbered
 pub mod Placed
 pub mod Caching
+pub mod Parted
+pub mod Taking
+pub mod Crossing

@@ -70,7 +70,7 @@ within_all u p os (c ∷ cs) within none =
 few_within : (os : List Owed) → are_within os ≡ true → length os ≤ 65536
 few_within os h = leb-true (length os) 65536 (and_parts (nat_le (length os) 65536) (nat_le (terms_in os) 4194304) h).0
 
-few_owed : (u : Program) (q : Procedure) → list_fault u q ≡ None → length (obligations_of u q) ≤ 65536
+pub few_owed : (u : Program) (q : Procedure) → list_fault u q ≡ None → length (obligations_of u q) ≤ 65536
 few_owed u q none = few_within (obligations_of u q) (within_all u q [] (claims_of u q) refl none)
 
 pub few_listed : (u : Program) (o : Option Procedure) (v : Vec Obligation Global) → AreObligationsIn {A = Global} (Ok v) u o → length v.items ≤ 65536

@@ -4,3 +4,4 @@ pub mod Outcomes
 pub mod Preorder
 pub mod Laws
 pub mod Cached
+pub mod Parts

@@ -1,5 +1,6 @@
 //! The check of a unit.
-ghost use Rattle.std.specs.Prelude.{◌≡◌, ◌≤◌, All, IfOk, OnOk, Some, length, map, slice_get};
+ghost use Rattle.std.specs.Prelude.{◌≡◌, ◌≤◌, ◌++◌, true, List, All, IfOk, OnOk, Some};
+ghost use Rattle.std.specs.Prelude.{length, map, slice_get};
 ghost use Rattle.exo_tree.specs.Tree.{Procedure};
 ghost use Rattle.exo_tree.specs.PlainUnit.{program};
 ghost use Rattle.exo_meaning.specs.Units.{IsUnit};
@@ -7,8 +8,11 @@ ghost use Rattle.meaning_laws.specs.UnitFields.{unit_writes};
 ghost use Rattle.config_state.specs.FieldSets.{IsTable};
 ghost use Rattle.exo_modes.specs.Marks.{modes_of};
 ghost use Rattle.exo_modes.specs.Seen.{table_says};
-ghost use Rattle.affine_forms.specs.Affine.{HasNoIntegerPoint};
+ghost use Rattle.affine_forms.specs.Affine.{Constraints, HasNoIntegerPoint};
+ghost use Rattle.affine_prover.specs.declared.answer.Verdict.{Verdict};
+ghost use Rattle.affine_systems.specs.Outcomes.{Owed, plain_obligation};
 ghost use Rattle.bounds_check.specs.Obligations.{Fault, obligations_of};
+ghost use Rattle.bounds_check.specs.Parts.{IsListed, PartListed, listed_of};
 ghost use Rattle.ob_check.specs.Entries.{discharged};
 ghost use Rattle.ob_check.specs.Held.{held};
 ghost use Rattle.unit_check.specs.declared.refused.Why.TheVariants.{Memory};
@@ -17,17 +21,19 @@ ghost use Rattle.unit_check.specs.Checked.{NotListed, cause_of, checked, AllHold
 ghost use Rattle.unit_check.specs.Cached.{discharged_all, systems_in};
 ghost use Rattle.unit_check.specs.Outcomes.{IsChecked, Answers, IsOf, place_in};
 ghost use Rattle.unit_check.specs.Faults.{NothingFaults};
+ghost use Rattle.unit_check.specs.Parts.{AreShown, TakesAll};
 
 use crate::laws::shown_procedures_do_not_fault;
 use crate::refused::{UnitRefused, Why};
-use crate::showing::show;
-use bounds_check::{CheckError, obligations_with_tables};
+use crate::showing::Showing;
+use affine_systems::Obligation;
+use bounds_check::{CheckError, Listing};
 use config_state::{FieldTable, written_table};
 use exo_modes::ModeTable;
 use exo_tree::{Path, ProcId, Unit};
 use ob_check::{Cache, Gate};
 use std::alloc::Global;
-use std::thread::Threads;
+use std::thread::{Threads, join_mut};
 
 /// Want of memory in the work on a procedure.
 fn out_of_memory(p: ProcId) -> UnitRefused
@@ -72,6 +78,63 @@ fn not_shown(p: ProcId, why: Why) -> UnitRefused
     }
 }
 
+/// Lists the next part while the last one is shown, each in a thread of its own where one can be
+/// made.
+fn list_and_show<R: Threads + Sync, G: Gate>(
+    rt: &R,
+    alloc: Global,
+    listing: &mut Listing<'_>,
+    showing: &mut Showing,
+    part: &[Obligation],
+    cache: &mut Cache,
+    gate: &G,
+) -> Result<Vec<Obligation>, CheckError>
+    requires listed { IsListed listing.old }
+    requires more { listing.old.more ≡ true }
+    ensures listed { PartListed result listing.old listing.new }
+    ensures shown { (es : List (Constraints × Verdict)) (os : List Owed)
+        → AreShown es os cache.old showing.old
+        → AreShown es (os ++ map plain_obligation part.now) cache.new showing.new }
+{
+    let mut list = || -> Result<Vec<Obligation>, CheckError>
+        requires { IsListed listing.now × (listing.now.more ≡ true) }
+        ensures { PartListed result listing.entry.now listing.exit.now }
+    { listing.next_part(rt, alloc) };
+    let mut show = ||
+        ensures { (es : List (Constraints × Verdict)) (os : List Owed)
+            → AreShown es os cache.entry.now showing.entry.now
+            → AreShown es (os ++ map plain_obligation part.entry.now) cache.exit.now
+            showing.exit.now }
+    { showing.take(rt, alloc, part, cache, gate) };
+    let (next, ()) = join_mut(rt, &mut list, &mut show);
+    next
+}
+
+/// Lists what a procedure owes and shows it, part by part. Each part is dropped before the one
+/// behind the next is made, also once something is not shown: a list that can't be made is told
+/// first.
+fn take_all<R: Threads + Sync, G: Gate>(
+    rt: &R,
+    alloc: Global,
+    listing: &mut Listing<'_>,
+    showing: &mut Showing,
+    cache: &mut Cache,
+    gate: &G,
+) -> Result<(), CheckError>
+    requires listed { IsListed listing.old }
+    requires more { listing.old.more ≡ true }
+    ensures { (es : List (Constraints × Verdict))
+        → AreShown es (listed_of listing.old) cache.old showing.old
+        → TakesAll result es listing.old listing.new cache.new showing.new }
+{
+    let mut part = listing.next_part(rt, alloc)?;
+    while listing.has_more() {
+        part = list_and_show(rt, alloc, listing, showing, &part, cache, gate)?;
+    }
+    showing.take(rt, alloc, &part, cache, gate);
+    Ok(())
+}
+
 /// Discharges the obligations of a procedure, and counts them. The tables say which fields each procedure may write, and how it
 /// touches its parameters.
 fn check_procedure<R: Threads + Sync, G: Gate>(
@@ -103,12 +166,21 @@ fn check_procedure<R: Threads + Sync, G: Gate>(
         → OnOk result
         (held cache.new ≡ discharged (held cache.old) (systems_in (obligations_of (program unit.now) q))) }
 {
-    let obs = match obligations_with_tables(alloc, unit, writes, modes, p) {
-        Ok(list) => list,
+    let mut listing = match Listing::new(alloc, unit, writes, modes, p) {
+        Ok(Some(listing)) => listing,
+        Ok(None) => return Ok(0),
         Err(e) => return Err(not_listed(p, e)),
     };
-    match show(rt, alloc, &obs, cache, gate) {
-        Ok(()) => Ok(obs.len() as u64),
+    let mut showing = match Showing::new(alloc) {
+        Ok(showing) => showing,
+        Err(_) => return Err(out_of_memory(p)),
+    };
+    match take_all(rt, alloc, &mut listing, &mut showing, cache, gate) {
+        Ok(()) => {}
+        Err(e) => return Err(not_listed(p, e)),
+    }
+    match showing.end(cache) {
+        Ok(()) => Ok(listing.count() as u64),
         Err(why) => Err(not_shown(p, why)),
     }
 }

@@ -1,11 +1,13 @@
 //! Whether all of some obligations are shown.
-ghost use Rattle.std.specs.Prelude.{◌≡◌, All, IfOk, OnOk, map};
-ghost use Rattle.affine_forms.specs.Affine.{HasNoIntegerPoint};
+ghost use Rattle.std.specs.Prelude.{◌≡◌, ◌++◌, List, All, IfOk, OnOk, map};
+ghost use Rattle.affine_forms.specs.Affine.{Constraints, HasNoIntegerPoint};
 ghost use Rattle.affine_systems.specs.Outcomes.{plain_obligation};
 ghost use Rattle.affine_prover.specs.Elimination.{elimination};
+ghost use Rattle.affine_prover.specs.declared.answer.Verdict.{Verdict};
 ghost use Rattle.ob_check.specs.Answers.{answer_of};
 ghost use Rattle.ob_check.specs.Entries.{discharged};
 ghost use Rattle.ob_check.specs.Held.{held};
+ghost use Rattle.ob_check.specs.Parts.{AreTaken};
 ghost use Rattle.ob_check.specs.Systems.{systems_of};
 ghost use Rattle.unit_check.specs.Cached.{systems_in};
 ghost use Rattle.unit_check.specs.Checked.{first_open};
@@ -16,7 +18,7 @@ use crate::refused::Why;
 use affine_prover::Verdict;
 use affine_systems::Obligation;
 use exo_tree::Text;
-use ob_check::{Answer, Cache, Gate, discharge};
+use ob_check::{Answer, Cache, Gate, Parts, discharge};
 use std::alloc::{AllocError, Global};
 use std::thread::Threads;
 
@@ -64,5 +66,98 @@ pub fn show<R: Threads + Sync, G: Gate>(
     match discharge(rt, alloc, obs, cache, gate) {
         Ok(answer) => answered(alloc, obs, answer),
         Err(_) => Err(Why::Memory),
+    }
+}
+
+/// Takes the next part of some obligations, and shows it alone.
+fn show_part<R: Threads + Sync, G: Gate>(
+    rt: &R,
+    alloc: Global,
+    part: &[Obligation],
+    parts: &mut Parts,
+    cache: &mut Cache,
+    gate: &G,
+) -> Result<(), Why>
+    ensures exact { Shows result (first_open (map plain_obligation part.now)) }
+    ensures taken { (es : List (Constraints × Verdict)) (ss : List Constraints)
+        → AreTaken es ss cache.old parts.old
+        → OnOk result
+        (AreTaken es (ss ++ systems_in (map plain_obligation part.now)) cache.new parts.new) }
+{
+    match parts.take(rt, alloc, part, cache, gate) {
+        Ok(answer) => answered(alloc, part, answer),
+        Err(_) => Err(Why::Memory),
+    }
+}
+
+/// What is shown of obligations that come in parts. Once one is not shown, no more are decided.
+#[derive(Drop)]
+pub(crate) struct Showing {
+    parts: Parts,
+    found: Result<(), Why>,
+}
+
+impl Showing {
+    ghost use Rattle.std.specs.Prelude.{◌≡◌, ◌++◌, List, [], All, IfOk, OnOk, map};
+    ghost use Rattle.affine_forms.specs.Affine.{Constraints, HasNoIntegerPoint};
+    ghost use Rattle.affine_systems.specs.Outcomes.{Owed, plain_obligation};
+    ghost use Rattle.affine_prover.specs.declared.answer.Verdict.{Verdict};
+    ghost use Rattle.ob_check.specs.declared.cache.Cache.{Cache};
+    ghost use Rattle.ob_check.specs.Entries.{discharged};
+    ghost use Rattle.ob_check.specs.Held.{held};
+    ghost use Rattle.unit_check.specs.Cached.{systems_in};
+    ghost use Rattle.unit_check.specs.Checked.{first_open};
+    ghost use Rattle.unit_check.specs.Outcomes.{Shows};
+    ghost use Rattle.unit_check.specs.Parts.{AreShown};
+
+    /// No part came yet.
+    pub(crate) fn new(alloc: Global) -> Result<Showing, AllocError>
+        ensures { IfOk result (λ s. (c : Cache) → AreShown (held c) [] c s) }
+    {
+        let parts = Parts::new(alloc)?;
+        Ok(Showing {
+            parts,
+            found: Ok(()),
+        })
+    }
+
+    /// Takes the next part, unless something is not shown before it.
+    pub(crate) fn take<R: Threads + Sync, G: Gate>(
+        &mut self,
+        rt: &R,
+        alloc: Global,
+        part: &[Obligation],
+        cache: &mut Cache,
+        gate: &G,
+    )
+        ensures { (es : List (Constraints × Verdict)) (os : List Owed)
+            → AreShown es os cache.old self.old
+            → AreShown es (os ++ map plain_obligation part.now) cache.new self.new }
+    {
+        if self.found.is_ok() {
+            self.found = show_part(rt, alloc, part, &mut self.parts, cache, gate);
+        }
+    }
+
+    /// What is shown of all. The cache ends as after one list of them.
+    pub(crate) fn end(self, cache: &mut Cache) -> Result<(), Why>
+        ensures exact { (es : List (Constraints × Verdict)) (os : List Owed)
+            → AreShown es os cache.old self
+            → Shows result (first_open os) }
+        ensures shown { (es : List (Constraints × Verdict)) (os : List Owed)
+            → AreShown es os cache.old self
+            → IfOk result (λ _. All (λ o. HasNoIntegerPoint o.system) os) }
+        ensures cache { (es : List (Constraints × Verdict)) (os : List Owed)
+            → AreShown es os cache.old self
+            → OnOk result (held cache.new ≡ discharged es (systems_in os)) }
+    {
+        let Showing { parts, found } = self;
+        match found {
+            Err(why) => Err(why),
+            Ok(()) => match parts.end(cache) {
+                Ok(_) => Ok(()),
+                Err(_) => Err(Why::Memory),
+            },
+        }
     }
 }

@@ -12,14 +12,14 @@ use Rattle.bounds_check.proofs.WellFormed.{walked, unit_formed, few_fields, exte
 use Rattle.bounds_check.proofs.list.obligations_with_tables.Goals as goal
 
 pub of-requires : goal.of-requires
-of-requires c =
+of-requires g c =
     let found : slice_get (program c.args.unit.now).procedures c.args.p.0 ≡ Some (procedure c.in-Some.proc.now) = search rules in
     extents_there (procedure c.in-Some.proc.now)
     (walked c.well_formed_procedures_may_be_walked.ensures (program c.args.unit.now) c.args.p.0 (procedure c.in-Some.proc.now)
     c.requires.unit found)
 
-pub obligations_of_claims-requires-clause-site : goal.obligations_of_claims-requires-clause-site
-obligations_of_claims-requires-clause-site c =
+pub listed-requires-clause-site : goal.listed-requires-clause-site
+listed-requires-clause-site g c _ _ =
     let u = program c.args.unit.now in
     let p = procedure c.in-Some.proc.now in
     let found : slice_get u.procedures c.args.p.0 ≡ Some p = search rules in
@@ -31,8 +31,8 @@ obligations_of_claims-requires-clause-site c =
       writes = c.requires.table;
     }
 
-pub obligations_of_claims-requires-clause-owable : goal.obligations_of_claims-requires-clause-owable
-obligations_of_claims-requires-clause-owable c =
+pub listed-requires-clause-owable : goal.listed-requires-clause-owable
+listed-requires-clause-owable g c _ _ =
     let u = program c.args.unit.now in
     let p = procedure c.in-Some.proc.now in
     let found : slice_get u.procedures c.args.p.0 ≡ Some p = search rules in
@@ -40,11 +40,11 @@ obligations_of_claims-requires-clause-owable c =
     ap (list_all (may_be_owed p)) all ∙ c.claims_may_be_owed.ensures u c.args.p.0 p c.requires.unit found
 
 pub returns-in_ok-claims-in-Some : goal.returns-in_ok-claims-in-Some
-returns-in_ok-claims-in-Some c =
+returns-in_ok-claims-in-Some g c =
     let u = program c.args.unit.now in
     let p = procedure c.in-Some.proc.now in
     let found : slice_get u.procedures c.args.p.0 ≡ Some p = search rules in
     let all : map placed c.deref.result.now ≡ claims_of u p = search rules in
-    let answer = c.obligations_of_claims.result in
+    let answer = c.listed.result in
     subst (λ (o : Option Procedure). AreObligationsIn answer u o) (sym found)
-    (all_owed u p (map placed c.deref.result.now) answer all c.obligations_of_claims.ensures)
+    (all_owed u p (map placed c.deref.result.now) answer all c.listed.ensures)

@@ -1,35 +1,111 @@
-use Rattle.std.proofs.Common.{All, ◌≡◌, ◌≤◌, map, length, ap, ◌∙◌, subst, arith, Option, Global}
-use Rattle.std.specs.Prelude.{Err, slice_get}
-use Rattle.affine_forms.specs.Affine.{HasNoIntegerPoint}
-use Rattle.affine_systems.specs.Outcomes.{Owed}
+use Rattle.std.proofs.Common.{ap, sym, ◌∙◌, ◌≤◌, length, arith}
 use Rattle.exo_tree.specs.PlainUnit.{program}
-use Rattle.exo_tree.specs.Tree.{Procedure}
-use Rattle.affine_systems.specs.Outcomes.{plain_obligation}
+use Rattle.ob_check.specs.Held.{held}
 use Rattle.bounds_check.specs.Obligations.{list_fault, obligations_of}
-use Rattle.bounds_check.specs.Outcomes.{AreObligationsIn}
-use Rattle.unit_check.proofs.Listing.{not_listed, listed, few_listed}
-use Rattle.unit_check.proofs.Caching.{one_list}
+use Rattle.bounds_check.specs.Parts.{listed_of, proc_of}
+use Rattle.unit_check.proofs.Listing.{not_listed}
+use Rattle.unit_check.proofs.Taking.{has_begun, more_at_start, all_taken, refused_taking}
+use Rattle.unit_check.proofs.Taking.{answers_ok, not_shown, few_done, hold_done, cached_done}
 use Rattle.unit_check.proofs.check.check_procedure.Goals as goal
 
-pub returns-in-Err-clause-exact : goal.returns-in-Err-clause-exact
-returns-in-Err-clause-exact g c = λ q at.
-    not_listed c.in-Err.e c.not_listed.result c.args.p.0 (list_fault (program c.args.unit.now) q) (obligations_of (program c.args.unit.now) q) c.not_listed.ensures.fault c.not_listed.ensures.memory
-    (subst (λ (o : Option Procedure). AreObligationsIn {A = Global} (Err c.in-Err.e) (program c.args.unit.now) o) at c.in-Err.ensures)
+pub take_all-requires-clause-more : goal.take_all-requires-clause-more
+take_all-requires-clause-more g c κs within =
+    let l = c.in-Ok-Some.listing in
+    let begun = has_begun c.in-Ok-Some.field-0 _ _ l c.in-Ok-Some.field-0-is
+    c.in-Ok-Some.ensures in
+    more_at_start l begun.listed begun.none
 
-pub returns-in-Ok-show-clause-few : goal.returns-in-Ok-show-clause-few
-returns-in-Ok-show-clause-few g c =
-    let few : length c.in-Ok.list.items ≤ 65536 = few_listed (program c.args.unit.now) (slice_get (program c.args.unit.now).procedures c.args.p.0) c.in-Ok.list c.in-Ok.ensures in
-    omega (arith, c.len.ensures)
+pub returns-in-Err-take_all-clause-exact : goal.returns-in-Err-take_all-clause-exact
+returns-in-Err-take_all-clause-exact g c = λ q at.
+    let u = program c.args.unit.now in
+    let e = c.in-Err-take_all.e in
+    let l = c.in-Ok-Some.listing in
+    let begun = has_begun c.in-Ok-Some.field-0 _ _ l c.in-Ok-Some.field-0-is
+    c.in-Ok-Some.ensures in
+    not_listed e c.not_listed-in-Err-take_all.result c.args.p.0 (list_fault u q)
+    (obligations_of u q) c.not_listed-in-Err-take_all.ensures.fault
+    c.not_listed-in-Err-take_all.ensures.memory
+    (refused_taking e u q _ l c.take_all.new.listing c.args.cache.now c.take_all.new.cache
+    c.in-Ok.showing c.take_all.new.showing begun c.in-Ok.ensures c.in-Err-take_all.ensures at)
 
-pub returns-in-Ok-show-clause-shown : goal.returns-in-Ok-show-clause-shown
-returns-in-Ok-show-clause-shown g c = λ q at.
-    let same : c.deref.result.now ≡ c.in-Ok.list.items = cc in
-    subst (All (λ (o : Owed). HasNoIntegerPoint o.system))
-    (ap (map plain_obligation) same ∙ (listed (program c.args.unit.now) c.args.p.0 q c.in-Ok.list c.in-Ok.ensures at).1)
-    c.in-Ok-show.ensures.shown
+pub count-requires : goal.count-requires
+count-requires g c =
+    let u = program c.args.unit.now in
+    let l = c.in-Ok-Some.listing in
+    let begun = has_begun c.in-Ok-Some.field-0 _ _ l c.in-Ok-Some.field-0-is
+    c.in-Ok-Some.ensures in
+    (all_taken u (proc_of l) _ l c.take_all.new.listing c.args.cache.now c.take_all.new.cache
+    c.in-Ok.showing c.take_all.new.showing begun c.in-Ok.ensures c.in-Ok-take_all.ensures
+    (sym begun.found)).listed
 
-pub returns-in-Ok-show-clause-cache : goal.returns-in-Ok-show-clause-cache
-returns-in-Ok-show-clause-cache g c = λ q at.
-    let same : c.deref.result.now ≡ c.in-Ok.list.items = cc in
-    let is = ap (map plain_obligation) same ∙ (listed (program c.args.unit.now) c.args.p.0 q c.in-Ok.list c.in-Ok.ensures at).1 in
-    c.in-Ok-show.ensures.cache ∙ one_list (map plain_obligation c.deref.result.now) (obligations_of (program c.args.unit.now) q) _ is
+pub returns-in-Ok-end-clause-exact : goal.returns-in-Ok-end-clause-exact
+returns-in-Ok-end-clause-exact g c = λ q at.
+    let u = program c.args.unit.now in
+    let l = c.in-Ok-Some.listing in
+    let m = c.take_all.new.listing in
+    let begun = has_begun c.in-Ok-Some.field-0 _ _ l c.in-Ok-Some.field-0-is
+    c.in-Ok-Some.ensures in
+    let all = all_taken u q _ l m c.args.cache.now c.take_all.new.cache c.in-Ok.showing
+    c.take_all.new.showing begun c.in-Ok.ensures c.in-Ok-take_all.ensures at in
+    answers_ok 0 c.args.p.0 u q (listed_of m) all.done
+    (c.in-Ok-end.ensures.exact (held c.args.cache.now) (listed_of m) all.shown)
+
+pub returns-in-Ok-end-clause-count : goal.returns-in-Ok-end-clause-count
+returns-in-Ok-end-clause-count g c = λ q at.
+    let u = program c.args.unit.now in
+    let l = c.in-Ok-Some.listing in
+    let m = c.take_all.new.listing in
+    let begun = has_begun c.in-Ok-Some.field-0 _ _ l c.in-Ok-Some.field-0-is
+    c.in-Ok-Some.ensures in
+    let all = all_taken u q _ l m c.args.cache.now c.take_all.new.cache c.in-Ok.showing
+    c.take_all.new.showing begun c.in-Ok.ensures c.in-Ok-take_all.ensures at in
+    c.count.ensures ∙ ap length all.done.owed
+
+pub returns-in-Ok-end-clause-few : goal.returns-in-Ok-end-clause-few
+returns-in-Ok-end-clause-few g c =
+    let u = program c.args.unit.now in
+    let l = c.in-Ok-Some.listing in
+    let m = c.take_all.new.listing in
+    let begun = has_begun c.in-Ok-Some.field-0 _ _ l c.in-Ok-Some.field-0-is
+    c.in-Ok-Some.ensures in
+    let all = all_taken u (proc_of l) _ l m c.args.cache.now c.take_all.new.cache c.in-Ok.showing
+    c.take_all.new.showing begun c.in-Ok.ensures c.in-Ok-take_all.ensures (sym begun.found) in
+    let few : length (listed_of m) ≤ 65536 = few_done u (proc_of l) (listed_of m) all.done in
+    omega (arith, few, c.count.ensures)
+
+pub returns-in-Ok-end-clause-shown : goal.returns-in-Ok-end-clause-shown
+returns-in-Ok-end-clause-shown g c = λ q at.
+    let u = program c.args.unit.now in
+    let l = c.in-Ok-Some.listing in
+    let m = c.take_all.new.listing in
+    let begun = has_begun c.in-Ok-Some.field-0 _ _ l c.in-Ok-Some.field-0-is
+    c.in-Ok-Some.ensures in
+    let all = all_taken u q _ l m c.args.cache.now c.take_all.new.cache c.in-Ok.showing
+    c.take_all.new.showing begun c.in-Ok.ensures c.in-Ok-take_all.ensures at in
+    hold_done u q (listed_of m) all.done
+    (c.in-Ok-end.ensures.shown (held c.args.cache.now) (listed_of m) all.shown)
+
+pub returns-in-Ok-end-clause-cache : goal.returns-in-Ok-end-clause-cache
+returns-in-Ok-end-clause-cache g c = λ q at.
+    let u = program c.args.unit.now in
+    let l = c.in-Ok-Some.listing in
+    let m = c.take_all.new.listing in
+    let begun = has_begun c.in-Ok-Some.field-0 _ _ l c.in-Ok-Some.field-0-is
+    c.in-Ok-Some.ensures in
+    let all = all_taken u q _ l m c.args.cache.now c.take_all.new.cache c.in-Ok.showing
+    c.take_all.new.showing begun c.in-Ok.ensures c.in-Ok-take_all.ensures at in
+    cached_done u q (listed_of m) (held c.args.cache.now) _ all.done
+    (c.in-Ok-end.ensures.cache (held c.args.cache.now) (listed_of m) all.shown)
+
+pub returns-clause-exact : goal.returns-clause-exact
+returns-clause-exact g c = λ q at.
+    let u = program c.args.unit.now in
+    let l = c.in-Ok-Some.listing in
+    let m = c.take_all.new.listing in
+    let begun = has_begun c.in-Ok-Some.field-0 _ _ l c.in-Ok-Some.field-0-is
+    c.in-Ok-Some.ensures in
+    let all = all_taken u q _ l m c.args.cache.now c.take_all.new.cache c.in-Ok.showing
+    c.take_all.new.showing begun c.in-Ok.ensures c.in-Ok-take_all.ensures at in
+    not_shown c.in-Err-end.why c.not_shown.result c.args.p.0 u q (listed_of m) all.done
+    (c.in-Err-end.ensures.exact (held c.args.cache.now) (listed_of m) all.shown)
+    c.not_shown.ensures.why c.not_shown.ensures.proc c.not_shown.ensures.place

@@ -132,7 +132,7 @@ returns-in_err-listed-clause-performs g c =
     (list_refused u m.must m.proc e (c.in_err-listed.ensures.listed m.proc there)))
 
 pub listed-requires-clause-renames : goal.listed-requires-clause-renames
-listed-requires-clause-renames g c = λ is.
+listed-requires-clause-renames g c κs within = λ is.
     let v = versions_in c.args.self.now in
     let m = plain_proposal c.args.made in
     let u = program c.push.new.self.session.unit in
@@ -193,7 +193,7 @@ pub returns-clause-mark : goal.returns-clause-mark
 returns-clause-mark g c = c.in_ok-done.ensures.settled
 
 pub listed-requires-clause-follows : goal.listed-requires-clause-follows
-listed-requires-clause-follows g c =
+listed-requires-clause-follows g c κs within =
     let v = versions_in c.args.self.now in
     let m = plain_proposal c.args.made in
     let u = program c.push.new.self.session.unit in

@@ -1,0 +1,61 @@
+-- Threads may share what a procedure's claims are told by.
+use denote.RattleType.{RattleType}
+use denote.Ref.{NamedLft}
+use denote.Struct.Declared.{shape}
+use denote.Param.Send.{IsSync, struct_sync, sendable}
+use denote.Param.SendFields.{as_row_sync}
+use Rattle.std.proofs.Crossing as std
+use Rattle.std.proofs.Crossing.{Vec-sync}
+use Rattle.std.specs.contracts.alloc.Global as Global
+use Rattle.std.specs.contracts.impls.GlobalAllocator.TheImpl.{ghosts}
+use Rattle.std.specs.declared.cmp.PartialEq as eq
+use Rattle.std.specs.declared.hash.BuildHasher as builder
+use Rattle.std.specs.declared.hash.Hash as hash
+use Rattle.std.specs.declared.hash.Hasher as hasher
+use Rattle.exo_tree.proofs.number.Id.TheSendSync as id
+use Rattle.config_state.proofs.set.FieldTable.TheSendSync as table
+use Rattle.affine_places.below.indexmap.specs.contracts.map.IndexMap as IndexMap
+use Rattle.affine_places.below.indexmap.proofs.map.IndexMap.TheSendSync as map
+use Rattle.affine_places.specs.contracts.layout.Extents as Extents
+use Rattle.affine_places.specs.contracts.layout.Layout as Layout
+use Rattle.affine_places.specs.contracts.rooted.Rooted as Rooted
+use Rattle.affine_places.specs.contracts.roots.Roots as Roots
+use Rattle.bounds_check.specs.contracts.claims.Site as Site
+use Rattle.bounds_check.proofs.Crosses.{Indices-sync, Proc-sync, Unit-sync}
+
+module _ (K V S T : RattleType) (e : eq.Ghosts K.Denot) (h : hash.Ghosts K.Denot)
+    (b : builder.Ghosts S.Denot T.Denot) (w : hasher.Ghosts T.Denot) where
+  IndexMap-sync : IsSync K → IsSync V → IsSync S
+      → IsSync (IndexMap.the_field K V S Global.the_row T e h b w ghosts).row
+  IndexMap-sync yk yv ys = map.the_sync K V S Global.the_row T e h b w ghosts yk yv ys std.sync
+
+module _ (a : NamedLft) where
+  Extents-sync : IsSync (Extents.the_field a).row
+  Extents-sync = let i = Indices-sync in search sendable depth 20
+
+  Layout-sync : IsSync (Layout.the_field a).row
+  Layout-sync = let x = Extents-sync in search sendable depth 20
+
+  Rooted-field_sync : IsSync (Rooted.the_field a).row
+  Rooted-field_sync =
+      let x = Layout-sync in let y = id.the_field_sync in search (Vec-sync, sendable) depth 20
+
+  Rooted-sync : IsSync (Rooted.the_row a)
+  Rooted-sync = as_row_sync (Rooted.the_field a) Rooted-field_sync
+
+  Roots-field_sync : IsSync (Roots.the_field a).row
+  Roots-field_sync =
+      let x = Rooted-sync in
+      struct_sync (shape (Roots.the_type a)) (search (IndexMap-sync, sendable) depth 20, tt)
+
+  Roots-sync : IsSync (Roots.the_row a)
+  Roots-sync = as_row_sync (Roots.the_field a) Roots-field_sync
+
+module _ (s a : NamedLft) where
+  Site-field_sync : IsSync (Site.the_field s a).row
+  Site-field_sync =
+      let u = Unit-sync in let p = Proc-sync in let r = Roots-sync a in let t = table.the_sync in
+      search sendable depth 20
+
+  pub Site-sync : IsSync (Site.the_row s a)
+  Site-sync = as_row_sync (Site.the_field s a) Site-field_sync
