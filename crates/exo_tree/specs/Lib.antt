@@ -12,6 +12,7 @@ pub mod PlainControl
 pub mod PlainDatum
 pub mod PlainArgument
 pub mod PlainStatement
+pub mod Held
 pub mod Falls
 pub mod PlainParam
 pub mod PlainProcedure

@@ -1,6 +1,7 @@
 //! Statements and blocks.
-ghost use Rattle.std.specs.Prelude.{◌≡◌, [], ◌∷◌, ◌++◌, ◌+◌, ◌<◌, ◌≤◌, length, drop, slice_range, OnOk, OnErr, IfOk, slice_get, option_map};
+ghost use Rattle.std.specs.Prelude.{◌≡◌, [], ◌∷◌, ◌++◌, ◌+◌, ◌<◌, ◌≤◌, length, drop, map, slice_range, OnOk, OnErr, IfOk, slice_get, option_map};
 ghost use Rattle.std.specs.Option.{option_copied};
+ghost use Rattle.exo_tree.specs.Held.{held_statements};
 ghost use Rattle.exo_tree.specs.Nodes.{nodes, nodes_of};
 ghost use Rattle.exo_tree.specs.PlainStatement.{statement};
 
@@ -40,7 +41,15 @@ pub enum Stmt {
 #[cycle(tree)]
 #[derive(Drop)]
 pub struct Block {
-    statements: Vec<Arc<Stmt>>,
+    held: Held,
+}
+
+/// The list of a block: its own, or one that other blocks have too and that is copied before it grows.
+#[cycle(tree)]
+#[derive(Drop)]
+enum Held {
+    Own(Vec<Arc<Stmt>>),
+    Shared(Arc<Vec<Arc<Stmt>>>),
 }
 
 impl Model for Block {
@@ -54,17 +63,68 @@ impl Model for Block {
 
     ghost coded = { coded_list statement_code };
 
-    ghost use Rattle.std.specs.Prelude.{map};
-    ghost use Rattle.exo_tree.specs.PlainStatement.{statement};
+    ghost use Rattle.exo_tree.specs.Held.{held_statements};
 
-    ghost view = { λ b. map (λ s. statement s.value) b.statements.items };
+    ghost view = { λ b. held_statements b.held };
 
     ghost size = { nodes_of };
 
     ghost use Rattle.std.proofs.Common.{arith};
-    ghost use Rattle.exo_tree.specs.Falls.{depth_le-nodes};
+    ghost use Rattle.exo_tree.specs.Falls.{held_le-nodes};
 
-    ghost size_decreases = { λ a h. omega (arith, depth_le-nodes a.statements.items) };
+    ghost size_decreases = { λ a h. omega (arith, held_le-nodes a.held) };
+}
+
+impl Held {
+    fn list(&self) -> &Vec<Arc<Stmt>>
+        ensures { map (λ s. statement s.value) result.now.items ≡ held_statements self.now }
+    {
+        match self {
+            Held::Own(list) => list,
+            Held::Shared(list) => list.as_ref(),
+        }
+    }
+
+    /// Puts a statement last, in a list of the block's own. After want of memory the list is unchanged.
+    fn push(&mut self, s: Arc<Stmt>) -> Result<(), AllocError>
+        ensures pushed { OnOk result (held_statements self.new
+            ≡ held_statements self.old ++ statement s.value ∷ []) }
+        ensures unchanged { OnErr result (held_statements self.new ≡ held_statements self.old) }
+    {
+        if let Held::Own(list) = self {
+            list.push(s)?;
+            return Ok(());
+        }
+        let mut own = references(self.list())?;
+        own.push(s)?;
+        *self = Held::Own(own);
+        Ok(())
+    }
+
+    /// The same list, shared from then on if it was not before.
+    fn shared(&self) -> Result<Held, AllocError>
+        ensures { IfOk result (λ h. held_statements h ≡ held_statements self.now) }
+    {
+        match self {
+            Held::Own(list) => {
+                let alloc = *list.allocator();
+                Ok(Held::Shared(Arc::new(alloc, references(list)?)?))
+            }
+            Held::Shared(list) => Ok(Held::Shared(list.clone()?)),
+        }
+    }
+}
+
+/// A list of references to the same statements.
+fn references(list: &Vec<Arc<Stmt>>) -> Result<Vec<Arc<Stmt>>, AllocError>
+    ensures { IfOk result (λ made. map (λ s. statement s.value) made.items
+        ≡ map (λ s. statement s.value) list.now.items) }
+{
+    let mut made = Vec::with_capacity(*list.allocator(), list.len())?;
+    for s in list {
+        made.push(s.clone()?)?;
+    }
+    Ok(made)
 }
 
 impl Block {
@@ -73,14 +133,14 @@ impl Block {
         ensures { result ≡ [] }
     {
         Block {
-            statements: Vec::new(alloc),
+            held: Held::Own(Vec::new(alloc)),
         }
     }
 
     pub fn len(&self) -> usize
         ensures { result ≡ length self.now }
     {
-        self.statements.len()
+        self.held.list().len()
     }
 
     /// Puts the statement last. After want of memory the block is unchanged.
@@ -88,16 +148,15 @@ impl Block {
         ensures pushed { OnOk result (self.new ≡ self.old ++ statement s ∷ []) }
         ensures unchanged { OnErr result (self.new ≡ self.old) }
     {
-        let alloc = *self.statements.allocator();
-        self.statements.push(Arc::new(alloc, s)?)?;
-        Ok(())
+        let alloc = *self.held.list().allocator();
+        self.held.push(Arc::new(alloc, s)?)
     }
 
     /// The statement at that index; None exactly where the block is not so long.
     pub fn get(&self, k: usize) -> Option<&Stmt>
         ensures { option_map statement (option_copied result) ≡ slice_get self.now k }
     {
-        match self.statements.get(k) {
+        match self.held.list().get(k) {
             Some(s) => Some(s.as_ref()),
             None => None,
         }
@@ -109,15 +168,14 @@ impl Block {
         ensures value { drop k self.now ≡ statement result.now ∷ drop (k + 1) self.now }
         ensures smaller { nodes (statement result.now) ≤ nodes_of self.now }
     {
-        self.statements[k].as_ref()
+        self.held.list()[k].as_ref()
     }
 
     /// Puts a statement of another block last.
     fn share(&mut self, s: &Arc<Stmt>) -> Result<(), AllocError>
         ensures { OnOk result (self.new ≡ self.old ++ statement s.now.value ∷ []) }
     {
-        self.statements.push(s.clone()?)?;
-        Ok(())
+        self.held.push(s.clone()?)
     }
 
     /// Appends the statements of `part` from `from` up to `to`, which both blocks have from then on.
@@ -132,7 +190,7 @@ impl Block {
         requires within { to ≤ length part.now }
         ensures { OnOk result (self.new ≡ self.old ++ slice_range part.now from to) }
     {
-        for s in &part.statements[from..to] {
+        for s in &part.held.list()[from..to] {
             self.share(s)?;
         }
         Ok(())
@@ -148,11 +206,12 @@ impl Block {
     }
 
     /// Moves the statements of `more` to the end.
+    #[tactic(auto, using(crate::proofs::Trees::whole_range))]
     pub fn append(&mut self, more: Block) -> Result<(), AllocError>
         ensures { OnOk result (self.new ≡ self.old ++ more) }
     {
-        let Block { mut statements } = more;
-        self.statements.append(&mut statements)
+        let alloc = *more.held.list().allocator();
+        self.append_part(alloc, &more, 0, more.len())
     }
 
     /// A block of copies of the `count` statements from `from` on.
@@ -164,5 +223,14 @@ impl Block {
         let mut made = Block::new(alloc);
         made.append_part(alloc, self, from, from + count)?;
         Ok(made)
+    }
+
+    /// The same statements, in one list that both blocks have from then on.
+    pub fn duplicate(&self, _alloc: Global) -> Result<Block, AllocError>
+        ensures { IfOk result (λ b. b ≡ self.now) }
+    {
+        Ok(Block {
+            held: self.held.shared()?,
+        })
     }
 }

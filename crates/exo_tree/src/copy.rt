@@ -116,13 +116,3 @@ impl Stmt {
         self.mapped(alloc, &Same)
     }
 }
-
-impl Block {
-    /// The same statements, which both blocks have from then on.
-    #[tactic(auto, using(crate::proofs::Trees::whole_range))]
-    pub fn duplicate(&self, alloc: Global) -> Result<Block, AllocError>
-        ensures { IfOk result (λ b. b ≡ self.now) }
-    {
-        self.piece(alloc, 0, self.len())
-    }
-}

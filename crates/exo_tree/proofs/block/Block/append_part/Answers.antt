@@ -5,6 +5,6 @@ use Rattle.exo_tree.proofs.block.Block.append_part.Goals as goal
 
 pub returns : goal.returns
 returns c =
-    let part = ap (map (λ r. statement r.value)) c.deref.ensures.value ∙ c.part.view_is in
+    let part = ap (map (λ r. statement r.value)) c.deref.ensures.value ∙ c.list.ensures ∙ c.part.view_is in
     let range = range_of_map (λ r. statement r.value) c.deref.result.now c.args.from c.args.to c.loop-s.s-index c.loop-s-test.false in
     c.loop-s.invariant ∙ ap (λ ss. c.args.self.now ++ ss) (range ∙ ap (λ ss. slice_range ss c.args.from c.args.to) part)

@@ -1,0 +1,7 @@
+use Rattle.std.proofs.Common.{◌≡◌, take, map}
+use Rattle.exo_tree.specs.PlainStatement.{statement}
+use Rattle.exo_tree.proofs.block.references.Given as goal
+
+abbrev pub invariant-loop-s : goal.invariant-loop-s
+invariant-loop-s l =
+    map (λ r. statement r.value) l.made.items ≡ map (λ r. statement r.value) (take l.s-index l.s-items)
