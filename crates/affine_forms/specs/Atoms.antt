@@ -1,6 +1,7 @@
 -- Weighed sums of atoms: the parts of a control expression that are kept as they are.
 -- An affine form is a constant and such a sum, as in the polyhedral model of loop programs (Feautrier, 1991).
-use Rattle.std.specs.Prelude.{ℕ, ℤ, pos, negsuc, ◌+ℤ◌, ◌*ℤ◌, ◌==◌, Bool, true, false, ◌&&◌, if◌then◌else◌, [], ◌∷◌, Option, Some, None}
+use Rattle.std.specs.Prelude.{ℕ, ℤ, pos, negsuc, ◌+ℤ◌, ◌*ℤ◌, ◌==◌, Bool, true, false, ◌&&◌}
+use Rattle.std.specs.Prelude.{if◌then◌else◌, [], ◌∷◌, Option, Some, None}
 use Rattle.std.specs.Int.{int_div_euclid, int_rem_euclid}
 use Rattle.std.specs.Ordering.{int_eq}
 use Rattle.exo_tree.specs.Tree.{Kind, Size, Index, Truth, Stride}
@@ -60,16 +61,53 @@ same_kind Stride k = elim k [ Size ↦ false | Index ↦ false | Truth ↦ false
 -- the sum without its first term of this atom and coefficient; None where it has none
 abbrev pub taken : (Atom → Bool) → ℤ → Terms → Option Terms
 taken is_it c none = None
-taken is_it c (term d b ts) = if is_it b && int_eq c d then Some ts else elim (taken is_it c ts) [ None ↦ None | Some us ↦ Some (term d b us) ]
+taken is_it c (term d b ts) =
+    if is_it b && int_eq c d then Some ts
+    else elim (taken is_it c ts) [ None ↦ None | Some us ↦ Some (term d b us) ]
 
 -- two sums are equal where each term of the first can be taken out of the second and nothing is left
 abbrev mutual
   pub same_atom : Atom → Atom → Bool
-  same_atom (Variable x) b = elim b [ Variable y ↦ x == y | EntryField g j ↦ false | UnknownField g j p ↦ false | OpaqueStride y k ↦ false | Quotient n ts c ↦ false ]
-  same_atom (EntryField f kind) b = elim b [ Variable y ↦ false | EntryField g j ↦ (f == g) && same_kind kind j | UnknownField g j p ↦ false | OpaqueStride y k ↦ false | Quotient n ts c ↦ false ]
-  same_atom (UnknownField f kind path) b = elim b [ Variable y ↦ false | EntryField g j ↦ false | UnknownField g j p ↦ ((f == g) && same_kind kind j) && same_path path p | OpaqueStride y k ↦ false | Quotient n ts c ↦ false ]
-  same_atom (OpaqueStride x j) b = elim b [ Variable y ↦ false | EntryField g i ↦ false | UnknownField g i p ↦ false | OpaqueStride y k ↦ (x == y) && (j == k) | Quotient n ts c ↦ false ]
-  same_atom (Quotient m us d) b = elim b [ Variable y ↦ false | EntryField g j ↦ false | UnknownField g j p ↦ false | OpaqueStride y k ↦ false | Quotient n ts c ↦ (int_eq m n && int_eq d c) && same_terms us ts ]
+  same_atom (Variable x) b =
+      elim b [
+        Variable y ↦ x == y
+        | EntryField g j ↦ false
+        | UnknownField g j p ↦ false
+        | OpaqueStride y k ↦ false
+        | Quotient n ts c ↦ false
+      ]
+  same_atom (EntryField f kind) b =
+      elim b [
+        Variable y ↦ false
+        | EntryField g j ↦ (f == g) && same_kind kind j
+        | UnknownField g j p ↦ false
+        | OpaqueStride y k ↦ false
+        | Quotient n ts c ↦ false
+      ]
+  same_atom (UnknownField f kind path) b =
+      elim b [
+        Variable y ↦ false
+        | EntryField g j ↦ false
+        | UnknownField g j p ↦ ((f == g) && same_kind kind j) && same_path path p
+        | OpaqueStride y k ↦ false
+        | Quotient n ts c ↦ false
+      ]
+  same_atom (OpaqueStride x j) b =
+      elim b [
+        Variable y ↦ false
+        | EntryField g i ↦ false
+        | UnknownField g i p ↦ false
+        | OpaqueStride y k ↦ (x == y) && (j == k)
+        | Quotient n ts c ↦ false
+      ]
+  same_atom (Quotient m us d) b =
+      elim b [
+        Variable y ↦ false
+        | EntryField g j ↦ false
+        | UnknownField g j p ↦ false
+        | OpaqueStride y k ↦ false
+        | Quotient n ts c ↦ (int_eq m n && int_eq d c) && same_terms us ts
+      ]
 
   pub same_terms : Terms → Terms → Bool
   same_terms none ts = elim ts [ none ↦ true | term d b us ↦ false ]

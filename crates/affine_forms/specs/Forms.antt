@@ -88,7 +88,11 @@ is_writable at (Add a b) = (is_writable at a && is_writable at b) && is_short_fo
 is_writable at (Sub a b) = (is_writable at a && is_writable at b) && is_short_form (form at (Sub a b))
 is_writable at (Mul a b) = (is_writable at a && is_writable at b) && is_short_form (form at (Mul a b))
 is_writable at (Div a c) = is_writable at a && is_short_form (form at (Div a c))
-is_writable at (Mod a c) = is_writable at a && ((is_short_form (quotient (form at a) c) && is_short_form (scaled c (quotient (form at a) c))) && is_short_form (form at (Mod a c)))
+is_writable at (Mod a c) =
+    is_writable at a
+    && ((is_short_form (quotient (form at a) c)
+    && is_short_form (scaled c (quotient (form at a) c)))
+    && is_short_form (form at (Mod a c)))
 
 -- all may stand in an expression
 abbrev pub anything : Allowed

@@ -1,10 +1,14 @@
 -- What is known and what is claimed of control values, as formulas over atoms.
-use Rattle.std.specs.Prelude.{ℕ, ℤ, pos, negsuc, ◌-ℤ◌, Bool, true, ◌&&◌, ◌||◌, int_le, int_lt, ◌^◌, ◌-◌, List, [], ◌∷◌, ◌++◌, map}
+use Rattle.std.specs.Prelude.{ℕ, ℤ, pos, negsuc, ◌-ℤ◌, Bool, true, ◌&&◌, ◌||◌, int_le, int_lt}
+use Rattle.std.specs.Prelude.{◌^◌, ◌-◌, List, [], ◌∷◌, ◌++◌, map}
 use Rattle.std.specs.List.{flat_map}
 use Rattle.std.specs.Ordering.{int_eq}
-use Rattle.exo_tree.specs.Tree.{Condition, True, False, Flag, FieldFlag, Lt, Le, Gt, Ge, Eq, And, Or}
-use Rattle.affine_forms.specs.Atoms.{Linear, Valuation, value, Variable, only, constantly, scaled, subtracted}
-use Rattle.affine_forms.specs.Forms.{Reading, normal, without_zeros, Allowed, anything, is_affine, is_writable}
+use Rattle.exo_tree.specs.Tree.{Condition, True, False, Flag, FieldFlag, Lt, Le, Gt, Ge, Eq, And}
+use Rattle.exo_tree.specs.Tree.{Or}
+use Rattle.affine_forms.specs.Atoms.{Linear, Valuation, value, Variable, only, constantly, scaled}
+use Rattle.affine_forms.specs.Atoms.{subtracted}
+use Rattle.affine_forms.specs.Forms.{Reading, normal, without_zeros, Allowed, anything, is_affine}
+use Rattle.affine_forms.specs.Forms.{is_writable}
 
 pub data Constraint : Type 0 where
   AtLeastZero IsZero : Linear → Constraint

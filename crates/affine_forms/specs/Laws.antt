@@ -15,7 +15,11 @@ pub record ReadsAt (may : Allowed) (v : Valuation) (at : Reading) (scene : Scene
 
 -- a normal form has the value of its expression
 abbrev pub NormalLaw : Type 0
-NormalLaw = (may : Allowed) (v : Valuation) (at : Reading) (scene : Scene) (e : Control) → ReadsAt may v at scene → is_affine may e ≡ true → value v (normal at e) ≡ number scene e
+NormalLaw =
+    (may : Allowed) (v : Valuation) (at : Reading) (scene : Scene) (e : Control)
+    → ReadsAt may v at scene
+    → is_affine may e ≡ true
+    → value v (normal at e) ≡ number scene e
 
 -- the same of bools
 pub record ReadsFlagsAt (may : AllowedFlags) (v : Valuation) (at : Reading) (flags : Flags) (scene : Scene) : Type 0 where
@@ -25,8 +29,17 @@ pub record ReadsFlagsAt (may : AllowedFlags) (v : Valuation) (at : Reading) (fla
 
 -- a formula is met where its condition holds, and nowhere else
 abbrev pub FormulaLaw : Type 0
-FormulaLaw = (may : AllowedFlags) (v : Valuation) (at : Reading) (flags : Flags) (scene : Scene) (c : Condition) → ReadsFlagsAt may v at flags scene → is_affine_condition may c ≡ true → is_met v (formula at flags c) ≡ holds scene c
+FormulaLaw =
+    (may : AllowedFlags) (v : Valuation) (at : Reading) (flags : Flags) (scene : Scene) (c : Condition)
+    → ReadsFlagsAt may v at flags scene
+    → is_affine_condition may c ≡ true
+    → is_met v (formula at flags c) ≡ holds scene c
 
 -- the form of a product of extents has its value
 abbrev pub StrideLaw : Type 0
-StrideLaw = (may : Allowed) (v : Valuation) (at : Reading) (scene : Scene) (extents : List Control) → ReadsAt may v at scene → all_affine may extents ≡ true → is_one_open extents ≡ true → value v (product_form at extents) ≡ product_of scene extents
+StrideLaw =
+    (may : Allowed) (v : Valuation) (at : Reading) (scene : Scene) (extents : List Control)
+    → ReadsAt may v at scene
+    → all_affine may extents ≡ true
+    → is_one_open extents ≡ true
+    → value v (product_form at extents) ≡ product_of scene extents

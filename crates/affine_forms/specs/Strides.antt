@@ -39,7 +39,9 @@ product_fits at (e ∷ es) = (is_writable at e && product_fits at es) && is_shor
 
 -- the stride of a dimension is the product of the extents after it, or an atom where two of these or more are no literals
 abbrev pub dense_stride : Reading → ℕ → ℕ → List Control → Linear
-dense_stride at root k extents = if is_one_open (drop (suc k) extents) then product_form at (drop (suc k) extents) else only (OpaqueStride root k)
+dense_stride at root k extents =
+    if is_one_open (drop (suc k) extents) then product_form at (drop (suc k) extents)
+    else only (OpaqueStride root k)
 
 abbrev pub dense_stride_fits : Reading → ℕ → List Control → Bool
 dense_stride_fits at k extents = if is_one_open (drop (suc k) extents) then product_fits at (drop (suc k) extents) else true

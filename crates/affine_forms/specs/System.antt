@@ -21,4 +21,9 @@ plain_row n r = record { constant = r.constant; coefficients = map (coefficient_
 
 -- the system as constraints
 abbrev pub plain_system : System → Constraints
-plain_system s = record { variables = s.vars; equations = map (plain_row s.vars) s.equations.items; rows = map (plain_row s.vars) s.rows.items }
+plain_system s =
+    record {
+      variables = s.vars;
+      equations = map (plain_row s.vars) s.equations.items;
+      rows = map (plain_row s.vars) s.rows.items;
+    }

@@ -79,7 +79,8 @@ impl Leaf {
     /// Whether a leaf is that field at entry.
     fn is_entry(&self, f: FieldId, kind: Kind) -> bool
         ensures { result
-            ≡ same_atom (plain.EntryField f.0 (control_kind kind)) (leaf_atom (plain_leaf self.now)) }
+            ≡ same_atom (plain.EntryField f.0 (control_kind kind))
+            (leaf_atom (plain_leaf self.now)) }
     {
         match self {
             Leaf::Variable(_) => false,

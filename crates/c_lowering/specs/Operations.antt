@@ -1,7 +1,10 @@
 -- What an expression makes of the C of its parts. Of a form that has no such parts nothing is
 -- asked.
-use Rattle.exo_tree.specs.Tree.{Control, Sub, Mul, Div, Mod, Condition, Lt, Le, Gt, Ge, And, Datum, Relu, Minus, Times}
-use Rattle.c_tree.specs.CTree.{Number64, Opposite, Sum, Difference, Product, Quotient, Remainder, Test, Less, LessEqual, More, MoreEqual, Equal, Both, Either, Number32, Opposite32, Relu32, Sum32, Difference32, Product32}
+use Rattle.exo_tree.specs.Tree.{Control, Sub, Mul, Div, Mod, Condition, Lt, Le, Gt, Ge, And}
+use Rattle.exo_tree.specs.Tree.{Datum, Relu, Minus, Times}
+use Rattle.c_tree.specs.CTree.{Number64, Opposite, Sum, Difference, Product, Quotient, Remainder}
+use Rattle.c_tree.specs.CTree.{Test, Less, LessEqual, More, MoreEqual, Equal, Both, Either}
+use Rattle.c_tree.specs.CTree.{Number32, Opposite32, Relu32, Sum32, Difference32, Product32}
 
 abbrev pub of_one : Control → Number64 → Number64
 of_one (Div a n) part = Quotient part n

@@ -22,6 +22,10 @@ first_free taken x (suc n) k = let later = first_free taken x n (suc k) in pick 
 abbrev pub is_taken : List Name → List Name → Name → Bool
 is_taken globals binders y = is_reserved globals y || is_in binders y
 
--- the name itself, or with the least number from 1 on where it is reserved; so many numbers are enough, since no name with a number is a word, and each taken name has one number
+-- the name itself, or with the least number from 1 on where it is reserved; so many numbers are
+-- enough, since no name with a number is a word, and each taken name has one number
 abbrev pub c_name : List Name → List Name → Name → Name
-c_name globals binders x = pick (is_reserved globals x) (numbered x (first_free (is_taken globals binders) x (suc (length globals + length binders)) 1)) x
+c_name globals binders x =
+    pick (is_reserved globals x)
+    (numbered x (first_free (is_taken globals binders) x (suc (length globals + length binders)) 1))
+    x

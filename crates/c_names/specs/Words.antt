@@ -24,15 +24,24 @@ is_own x = starts_with (codes "_") x || starts_with (codes "exo_") x
 
 -- the keywords of C11 that do not begin with `_` (ISO/IEC 9899:2011, 6.4.1): those of types
 abbrev pub type_keywords : List Name
-type_keywords = codes "char" ∷ codes "double" ∷ codes "enum" ∷ codes "float" ∷ codes "int" ∷ codes "long" ∷ codes "short" ∷ codes "signed" ∷ codes "struct" ∷ codes "union" ∷ codes "unsigned" ∷ codes "void" ∷ []
+type_keywords =
+    codes "char" ∷ codes "double" ∷ codes "enum" ∷ codes "float" ∷ codes "int"
+    ∷ codes "long" ∷ codes "short" ∷ codes "signed" ∷ codes "struct" ∷ codes "union"
+    ∷ codes "unsigned" ∷ codes "void" ∷ []
 
 -- those of statements
 abbrev pub statement_keywords : List Name
-statement_keywords = codes "break" ∷ codes "case" ∷ codes "continue" ∷ codes "default" ∷ codes "do" ∷ codes "else" ∷ codes "for" ∷ codes "goto" ∷ codes "if" ∷ codes "return" ∷ codes "switch" ∷ codes "while" ∷ []
+statement_keywords =
+    codes "break" ∷ codes "case" ∷ codes "continue" ∷ codes "default" ∷ codes "do"
+    ∷ codes "else" ∷ codes "for" ∷ codes "goto" ∷ codes "if" ∷ codes "return"
+    ∷ codes "switch" ∷ codes "while" ∷ []
 
 -- and the rest
 abbrev pub other_keywords : List Name
-other_keywords = codes "auto" ∷ codes "const" ∷ codes "extern" ∷ codes "inline" ∷ codes "register" ∷ codes "restrict" ∷ codes "sizeof" ∷ codes "static" ∷ codes "typedef" ∷ codes "volatile" ∷ []
+other_keywords =
+    codes "auto" ∷ codes "const" ∷ codes "extern" ∷ codes "inline" ∷ codes "register"
+    ∷ codes "restrict" ∷ codes "sizeof" ∷ codes "static" ∷ codes "typedef"
+    ∷ codes "volatile" ∷ []
 
 -- what the headers and the entry of a program are called
 abbrev pub library_words : List Name
@@ -40,15 +49,23 @@ library_words = codes "NULL" ∷ codes "main" ∷ codes "malloc" ∷ codes "free
 
 -- the types of `<stdint.h>` (ISO/IEC 9899:2011, 7.20.1): of exact width
 abbrev pub exact_types : List Name
-exact_types = codes "int8_t" ∷ codes "int16_t" ∷ codes "int32_t" ∷ codes "int64_t" ∷ codes "uint8_t" ∷ codes "uint16_t" ∷ codes "uint32_t" ∷ codes "uint64_t" ∷ []
+exact_types =
+    codes "int8_t" ∷ codes "int16_t" ∷ codes "int32_t" ∷ codes "int64_t" ∷ codes "uint8_t"
+    ∷ codes "uint16_t" ∷ codes "uint32_t" ∷ codes "uint64_t" ∷ []
 
 -- of at least that width
 abbrev pub least_types : List Name
-least_types = codes "int_least8_t" ∷ codes "int_least16_t" ∷ codes "int_least32_t" ∷ codes "int_least64_t" ∷ codes "uint_least8_t" ∷ codes "uint_least16_t" ∷ codes "uint_least32_t" ∷ codes "uint_least64_t" ∷ []
+least_types =
+    codes "int_least8_t" ∷ codes "int_least16_t" ∷ codes "int_least32_t"
+    ∷ codes "int_least64_t" ∷ codes "uint_least8_t" ∷ codes "uint_least16_t"
+    ∷ codes "uint_least32_t" ∷ codes "uint_least64_t" ∷ []
 
 -- the fastest ones
 abbrev pub fast_types : List Name
-fast_types = codes "int_fast8_t" ∷ codes "int_fast16_t" ∷ codes "int_fast32_t" ∷ codes "int_fast64_t" ∷ codes "uint_fast8_t" ∷ codes "uint_fast16_t" ∷ codes "uint_fast32_t" ∷ codes "uint_fast64_t" ∷ []
+fast_types =
+    codes "int_fast8_t" ∷ codes "int_fast16_t" ∷ codes "int_fast32_t" ∷ codes "int_fast64_t"
+    ∷ codes "uint_fast8_t" ∷ codes "uint_fast16_t" ∷ codes "uint_fast32_t"
+    ∷ codes "uint_fast64_t" ∷ []
 
 -- for pointers, and the greatest ones
 abbrev pub greatest_types : List Name

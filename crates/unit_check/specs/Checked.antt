@@ -35,7 +35,11 @@ pub data Checked : Type 0 where
 -- of the procedures from number k on, behind so many obligations
 abbrev pub checked_from : Program → ℕ → ℕ → List Procedure → Checked
 checked_from u k count [] = Shown count
-checked_from u k count (p ∷ ps) = elim (cause_of u p) [ None ↦ checked_from u (suc k) (count + length (obligations_of u p)) ps | Some cause ↦ Refused k cause ]
+checked_from u k count (p ∷ ps) =
+    elim (cause_of u p) [
+      None ↦ checked_from u (suc k) (count + length (obligations_of u p)) ps
+      | Some cause ↦ Refused k cause
+    ]
 
 abbrev pub checked : Program → Checked
 checked u = checked_from u 0 0 u.procedures

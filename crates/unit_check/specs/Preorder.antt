@@ -1,7 +1,9 @@
 -- The text lines of statements: those of a procedure stand in preorder.
-use Rattle.std.specs.Prelude.{ℕ, zero, suc, ◌+◌, ◌-◌, ◌^◌, min, List, [], ◌∷◌, ◌++◌, Option, Some, None, option_map, slice_index_or}
+use Rattle.std.specs.Prelude.{ℕ, zero, suc, ◌+◌, ◌-◌, ◌^◌, min, List, [], ◌∷◌, ◌++◌, Option, Some}
+use Rattle.std.specs.Prelude.{None, option_map, slice_index_or}
 use Rattle.std.specs.List.{position_or_len}
-use Rattle.exo_tree.specs.Tree.{Statement, Assign, Reduce, Config, Pass, If, For, Alloc, View, Call, Block, end, next, Procedure}
+use Rattle.exo_tree.specs.Tree.{Statement, Assign, Reduce, Config, Pass, If, For, Alloc, View}
+use Rattle.exo_tree.specs.Tree.{Call, Block, end, next, Procedure}
 use Rattle.exo_tree.specs.Nodes.{nodes, nodes_in}
 use Rattle.exo_tree.specs.Places.{Branch, Main, Else, Path}
 use Rattle.exo_tree.specs.Branches.{branch_of}
@@ -61,7 +63,11 @@ before Else a = 0
 -- where the rest of a path leads from a statement: to itself, or inside it
 abbrev pub inside : Path → Statement → Option ℕ
 inside [] a = Some 0
-inside (s ∷ rest) a = option_map (λ n. 1 + n) (elim (branch_of s.branch a) [ None ↦ None | Some b ↦ option_map (λ n. before s.branch a + n) (past (inside rest) b s.index) ])
+inside (s ∷ rest) a =
+    option_map (λ n. 1 + n) (elim (branch_of s.branch a) [
+      None ↦ None
+      | Some b ↦ option_map (λ n. before s.branch a + n) (past (inside rest) b s.index)
+    ])
 
 -- how many statements of a block stand before the one at a path into it, if there is one
 abbrev pub place_in : Path → Block → Option ℕ
