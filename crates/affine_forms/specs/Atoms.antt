@@ -70,7 +70,7 @@ abbrev mutual
   pub same_atom : Atom → Atom → Bool
   same_atom (Variable x) b =
       elim b [
-        Variable y ↦ x == y
+        | Variable y ↦ x == y
         | EntryField g j ↦ false
         | UnknownField g j p ↦ false
         | OpaqueStride y k ↦ false
@@ -78,7 +78,7 @@ abbrev mutual
       ]
   same_atom (EntryField f kind) b =
       elim b [
-        Variable y ↦ false
+        | Variable y ↦ false
         | EntryField g j ↦ (f == g) && same_kind kind j
         | UnknownField g j p ↦ false
         | OpaqueStride y k ↦ false
@@ -86,7 +86,7 @@ abbrev mutual
       ]
   same_atom (UnknownField f kind path) b =
       elim b [
-        Variable y ↦ false
+        | Variable y ↦ false
         | EntryField g j ↦ false
         | UnknownField g j p ↦ ((f == g) && same_kind kind j) && same_path path p
         | OpaqueStride y k ↦ false
@@ -94,7 +94,7 @@ abbrev mutual
       ]
   same_atom (OpaqueStride x j) b =
       elim b [
-        Variable y ↦ false
+        | Variable y ↦ false
         | EntryField g i ↦ false
         | UnknownField g i p ↦ false
         | OpaqueStride y k ↦ (x == y) && (j == k)
@@ -102,7 +102,7 @@ abbrev mutual
       ]
   same_atom (Quotient m us d) b =
       elim b [
-        Variable y ↦ false
+        | Variable y ↦ false
         | EntryField g j ↦ false
         | UnknownField g j p ↦ false
         | OpaqueStride y k ↦ false

@@ -37,7 +37,7 @@ abbrev pub checked_from : Program → ℕ → ℕ → List Procedure → Checked
 checked_from u k count [] = Shown count
 checked_from u k count (p ∷ ps) =
     elim (cause_of u p) [
-      None ↦ checked_from u (suc k) (count + length (obligations_of u p)) ps
+      | None ↦ checked_from u (suc k) (count + length (obligations_of u p)) ps
       | Some cause ↦ Refused k cause
     ]
 

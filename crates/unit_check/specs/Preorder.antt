@@ -65,7 +65,7 @@ abbrev pub inside : Path → Statement → Option ℕ
 inside [] a = Some 0
 inside (s ∷ rest) a =
     option_map (λ n. 1 + n) (elim (branch_of s.branch a) [
-      None ↦ None
+      | None ↦ None
       | Some b ↦ option_map (λ n. before s.branch a + n) (past (inside rest) b s.index)
     ])
 
