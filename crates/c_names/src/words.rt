@@ -55,11 +55,11 @@ const FAST_TYPES: [&str; 8] = [
 /// The integer types for pointers, and the greatest ones.
 const GREATEST_TYPES: [&str; 4] = ["intptr_t", "uintptr_t", "intmax_t", "uintmax_t"];
 
-/// Whether two names are the same.
+/// Whether two names are the same. Most differ in length, which is tested first.
 pub(crate) fn is_same(word: &str, x: &str) -> bool
     ensures { result ≡ same_name word.now x.now }
 {
-    word == x
+    word.len() == x.len() && word == x
 }
 
 /// Whether the name begins with those bytes.
