@@ -133,32 +133,40 @@ pub Args-sync : IsSync Args.the_row
 Args-sync = let a = Vec-sync _ Arg-sync in search sendable depth 20
 
 -- ---- statements: an `Arc` asks both laws of what it holds
-shared-send : (R : RattleType) → IsSend R → IsSync R
-    → IsSend (Vec.the_row (Arc.the_row R Global.the_row ghosts) Global.the_row ghosts)
-shared-send R s y = Vec-send _ (Arc-send R s y)
+module _ (R : RattleType) (s : IsSend R) (y : IsSync R) where
+  abbrev list : RattleType
+  list = Vec.the_row (Arc.the_row R Global.the_row ghosts) Global.the_row ghosts
 
-shared-sync : (R : RattleType) → IsSend R → IsSync R
-    → IsSync (Vec.the_row (Arc.the_row R Global.the_row ghosts) Global.the_row ghosts)
-shared-sync R s y = Vec-sync _ (Arc-sync R s y)
+  list-send : IsSend list
+  list-send = Vec-send _ (Arc-send R s y)
+
+  list-sync : IsSync list
+  list-sync = Vec-sync _ (Arc-sync R s y)
+
+  shared-send : IsSend (Arc.the_row list Global.the_row ghosts)
+  shared-send = Arc-send list list-send list-sync
+
+  shared-sync : IsSync (Arc.the_row list Global.the_row ghosts)
+  shared-sync = Arc-sync list list-send list-sync
 
 pub Block-send : IsSend Block.the_row
 Block-send = block.both_send-Block
-    shared-send id.the_send (as_row_send Indices.the_field Indices-send) DataExpr-send
+    list-send shared-send id.the_send (as_row_send Indices.the_field Indices-send) DataExpr-send
     field_id.the_send Arg-send Cond-send binder.the_send Ctrl-send cell.the_send mem_id.the_send
     (as_row_send Coords.the_field Coords-send) proc_id.the_send
     (as_row_send Args.the_field Args-send)
-    shared-sync id.the_sync (as_row_sync Indices.the_field Indices-sync) DataExpr-sync
+    list-sync shared-sync id.the_sync (as_row_sync Indices.the_field Indices-sync) DataExpr-sync
     field_id.the_sync Arg-sync Cond-sync binder.the_sync Ctrl-sync cell.the_sync mem_id.the_sync
     (as_row_sync Coords.the_field Coords-sync) proc_id.the_sync
     (as_row_sync Args.the_field Args-sync)
 
 pub Block-sync : IsSync Block.the_row
 Block-sync = block.both_sync-Block
-    shared-send id.the_send (as_row_send Indices.the_field Indices-send) DataExpr-send
+    list-send shared-send id.the_send (as_row_send Indices.the_field Indices-send) DataExpr-send
     field_id.the_send Arg-send Cond-send binder.the_send Ctrl-send cell.the_send mem_id.the_send
     (as_row_send Coords.the_field Coords-send) proc_id.the_send
     (as_row_send Args.the_field Args-send)
-    shared-sync id.the_sync (as_row_sync Indices.the_field Indices-sync) DataExpr-sync
+    list-sync shared-sync id.the_sync (as_row_sync Indices.the_field Indices-sync) DataExpr-sync
     field_id.the_sync Arg-sync Cond-sync binder.the_sync Ctrl-sync cell.the_sync mem_id.the_sync
     (as_row_sync Coords.the_field Coords-sync) proc_id.the_sync
     (as_row_sync Args.the_field Args-sync)
