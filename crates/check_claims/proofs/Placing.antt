@@ -1,5 +1,5 @@
 -- The claims of places, and how a window goes over them.
-use Rattle.std.proofs.Common.{◌≡◌, ℕ, zero, suc, ◌-◌, ◌==◌, ◌&&◌, if◌then◌else◌, nat_lt, arith, Bool, true, false, ◌||◌, length, take, drop, append-nil, List, [], ◌∷◌, ◌++◌, append_assoc, add-one, ◌+◌, refl, sym, ap, ◌∙◌}
+use Rattle.std.proofs.Common.{◌≡◌, ℕ, zero, suc, ◌-◌, ◌==◌, ◌&&◌, if◌then◌else◌, nat_lt, arith, Bool, true, false, ◌||◌, length, take, drop, append-nil, List, [], ◌∷◌, ◌++◌, append_assoc, add-one, ◌+◌, refl, sym, ap, ◌∙◌, subst}
 use Rattle.std.proofs.lemmas.Bool.Decides.{nat_tests}
 use Rattle.std.proofs.lemmas.List.Sums.{fold-append}
 use Rattle.std.proofs.lemmas.Grind.{flat_map-append}
@@ -144,3 +144,15 @@ window_more zero (suc n) m os (i ∷ is) =
     ∙ ap (λ t. m || t) (sym (lt_suc n (length is)))
 window_more (suc k) count m os (i ∷ is) =
     ap (λ s. (with_places s is).1.more) (skipped k count m os i) ∙ window_more k count m os is
+
+-- ---- a window behind which no place changes anything
+past_stays : (os : List Placed) (is : List Place)
+    → with_places (os, window 0 0 true) is ≡ (os, window 0 0 true)
+past_stays os [] = refl
+past_stays os (i ∷ is) = past_stays os is
+
+pub past : (w : Window) → w.skip ≡ 0 → w.left ≡ 0 → w.more ≡ true
+    → (os : List Placed) (is : List Place) → with_places (os, w) is ≡ (os, w)
+past w s l m os is =
+    let e : window 0 0 true ≡ w = λ i. record { skip = sym s i; left = sym l i; more = sym m i } in
+    subst (λ v. with_places (os, v) is ≡ (os, v)) e (past_stays os is)

@@ -8,4 +8,5 @@ pub mod Claims
 pub mod Places
 pub mod Short
 pub mod Seen
+pub mod Sources
 pub mod Orders

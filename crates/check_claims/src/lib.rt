@@ -9,9 +9,11 @@ mod extents;
 pub mod laws;
 mod list;
 mod parts;
+mod sources;
 mod walk;
 
 pub use claim::{Claim, Placed};
 pub use extents::Extents;
 pub use parts::{Part, claims_between};
+pub use sources::Sources;
 pub use walk::{claims_of, claims_there};

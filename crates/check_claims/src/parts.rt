@@ -1,7 +1,8 @@
 //! The claims of a procedure, so many places at a time.
-ghost use Rattle.std.specs.Prelude.{◌≡◌, ◌+◌, ◌<◌, IsTrue, true, [], map, OnOk, IfOk, length};
+ghost use Rattle.std.specs.Prelude.{◌≡◌, ◌++◌, ◌+◌, ◌<◌, IsTrue, true, [], map, OnOk, IfOk, Some};
+ghost use Rattle.std.specs.Prelude.{length, slice_get};
 ghost use Rattle.std.specs.List.{list_all};
-ghost use Rattle.exo_tree.specs.Tree.{block};
+ghost use Rattle.exo_tree.specs.Tree.{Procedure, block};
 ghost use Rattle.exo_tree.specs.PlainPlace.{branch_taken};
 ghost use Rattle.exo_tree.specs.PlainParam.{parameter};
 ghost use Rattle.exo_tree.specs.PlainStatement.{statement};
@@ -13,19 +14,20 @@ ghost use Rattle.exo_modes.specs.Seen.{table_says};
 ghost use Rattle.affine_places.specs.Roots.{roots_of, unit_roots};
 ghost use Rattle.affine_places.specs.Seen.{roots_in};
 ghost use Rattle.text_show.specs.Seen.{words_in};
-ghost use Rattle.check_claims.specs.Claims.{into, own_claims, param_claims};
+ghost use Rattle.check_claims.specs.Claims.{into, own_claims, param_claims, placed_at};
 ghost use Rattle.check_claims.specs.PlainClaim.{placed};
 ghost use Rattle.check_claims.specs.Places.{block_places, inner_places, places_of};
 ghost use Rattle.check_claims.specs.Places.{with_place, with_places};
 ghost use Rattle.check_claims.specs.Places.{claims_between, has_more};
 ghost use Rattle.check_claims.specs.Places.{unit_claims_between, unit_has_more};
 ghost use Rattle.check_claims.specs.Seen.{extents_in};
+ghost use Rattle.check_claims.specs.Sources.{AreSources};
 ghost use Rattle.check_claims.specs.Short.{is_short_inside, step_is_short, has_few_params};
 
 use crate::bounds::Site;
 use crate::claim::Placed;
-use crate::extents::Extents;
 use crate::list::Claims;
+use crate::sources::Sources;
 use crate::walk::{into, put_own, put_params};
 use affine_places::Roots;
 use exo_modes::ModeTable;
@@ -44,7 +46,9 @@ pub(crate) struct Window {
 
 impl Window {
     ghost use Rattle.std.specs.Prelude.{◌≡◌};
-    ghost use Rattle.check_claims.specs.Places.{moved, takes};
+    ghost use Rattle.std.specs.Prelude.{List, true};
+    ghost use Rattle.check_claims.specs.Claim as plain;
+    ghost use Rattle.check_claims.specs.Places.{Place, moved, takes, with_places};
 
     /// Goes on over a place, and tells whether it is taken.
     fn takes_next(&mut self) -> bool
@@ -62,6 +66,20 @@ impl Window {
         self.more = true;
         false
     }
+
+    /// Whether no place that comes changes anything any more.
+    fn is_past(&self) -> bool
+        ensures { result ≡ true
+            → (os : List plain.Placed) (is : List Place) → with_places (os, self.now) is ≡ (os, self.now) }
+    {
+        if self.skip > 0 {
+            return false;
+        }
+        if self.left > 0 {
+            return false;
+        }
+        self.more
+    }
 }
 
 /// The claims of some places of a procedure.
@@ -70,6 +88,30 @@ pub struct Part {
     pub claims: Vec<Placed>,
     /// Whether the procedure has a place behind those.
     pub more: bool,
+}
+
+/// Puts the own claims of the statement of that number in a branch of the statement at a path last.
+fn put_taken(
+    alloc: Global,
+    out: &mut Vec<Placed>,
+    site: &Site,
+    outer: &Path,
+    branch: Branch,
+    k: u32,
+    s: &Stmt,
+) -> Result<(), AllocError>
+    requires { length outer.now < 32 }
+    ensures { OnOk result
+        (map placed out.new.items
+        ≡ map placed out.old.items
+        ++ placed_at (into outer.now (branch_taken branch) k)
+        (own_claims (words_in site.now.words.now) (program site.now.unit.now)
+        (extents_in site.now.extents.now) (roots_in site.now.roots.now) (statement s.now))) }
+{
+    let path = into(outer, branch, k);
+    let mut own = Claims::new(alloc);
+    put_own(alloc, &mut own, site, s)?;
+    own.place(out, &path)
 }
 
 /// Goes on over the statement of that number in a branch of the statement at a path: puts its own
@@ -94,10 +136,7 @@ fn put_place(
         )) }
 {
     if window.takes_next() {
-        let path = into(outer, branch, k);
-        let mut own = Claims::new(alloc);
-        put_own(alloc, &mut own, site, s)?;
-        own.place(out, &path)?;
+        put_taken(alloc, out, site, outer, branch, k, s)?;
     }
     Ok(())
 }
@@ -124,6 +163,9 @@ fn put_block_places(
         (branch_taken branch) 0 (block b.now))) }
 {
     for k in 0..b.len() {
+        if window.is_past() {
+            return Ok(());
+        }
         let s = b.statement(k);
         put_place(alloc, out, site, window, outer, branch, k as u32, s)?;
         put_inner_places(alloc, out, site, window, outer, branch, k as u32, s)?;
@@ -132,7 +174,7 @@ fn put_block_places(
 }
 
 /// Goes on over the blocks of the statement of that number in a branch of the statement at a path.
-#[tactic(auto, using(crate::proofs::Walks::left_least, crate::proofs::Walks::right_least, crate::proofs::Walks::into_length))]
+#[tactic(auto, using(crate::proofs::Walks::left_least, crate::proofs::Walks::right_least))]
 #[cycle(walk)]
 fn put_inner_places(
     alloc: Global,
@@ -155,16 +197,42 @@ fn put_inner_places(
 {
     match s {
         Stmt::If(_, a, b) => {
-            let path = into(outer, branch, k);
-            put_block_places(alloc, out, site, window, &path, Branch::Main, a)?;
-            put_block_places(alloc, out, site, window, &path, Branch::Else, b)
+            put_under(alloc, out, site, window, outer, branch, k, Branch::Main, a)?;
+            put_under(alloc, out, site, window, outer, branch, k, Branch::Else, b)
         }
         Stmt::For(_, _, _, b) => {
-            let path = into(outer, branch, k);
-            put_block_places(alloc, out, site, window, &path, Branch::Main, b)
+            put_under(alloc, out, site, window, outer, branch, k, Branch::Main, b)
         }
         _ => Ok(()),
     }
+}
+
+/// Goes on over one block of that statement.
+#[tactic(auto, using(crate::proofs::Walks::into_length))]
+#[cycle(walk)]
+fn put_under(
+    alloc: Global,
+    out: &mut Vec<Placed>,
+    site: &Site,
+    window: &mut Window,
+    outer: &Path,
+    branch: Branch,
+    k: u32,
+    inner: Branch,
+    b: &Block,
+) -> Result<(), AllocError>
+    requires short { is_short (block b.now) ≡ true }
+    requires inside { is_short_inside (block b.now) ≡ true }
+    requires levels { length outer.now + levels (block b.now) < 32 }
+    ensures { OnOk result
+        ((map placed out.new.items, window.new)
+        ≡ with_places (map placed out.old.items, window.old)
+        (block_places (words_in site.now.words.now) (program site.now.unit.now)
+        (extents_in site.now.extents.now) (roots_in site.now.roots.now)
+        (into outer.now (branch_taken branch) k) (branch_taken inner) 0 (block b.now))) }
+{
+    let path = into(outer, branch, k);
+    put_block_places(alloc, out, site, window, &path, inner, b)
 }
 
 /// Goes on over the parameters of a procedure, which are its first place.
@@ -189,12 +257,13 @@ fn put_head(
 }
 
 /// Goes on over all places of a procedure of the unit.
-fn put_places(
+fn put_places<'u>(
     alloc: Global,
     out: &mut Vec<Placed>,
-    unit: &Unit,
+    unit: &'u Unit,
     modes: &ModeTable,
     roots: &Roots<'_>,
+    sources: &Sources<'u>,
     window: &mut Window,
     p: &Proc,
 ) -> Result<(), AllocError>
@@ -204,21 +273,20 @@ fn put_places(
     requires few { IsTrue (list_all has_few_params (program unit.now).procedures) }
     requires modes { table_says modes.now ≡ modes_of (program unit.now) }
     requires roots { roots_in roots.now ≡ roots_of (procedure p.now) }
+    requires sources { AreSources sources.now (program unit.now) (procedure p.now) }
     ensures { OnOk result
         ((map placed out.new.items, window.new)
         ≡ with_places (map placed out.old.items, window.old)
         (places_of (program unit.now) (procedure p.now))) }
 {
-    let words = Words::new(alloc, unit, p)?;
-    let extents = Extents::of(alloc, p)?;
     let site = Site {
         unit,
         modes,
-        words: &words,
-        extents: &extents,
+        words: &sources.words,
+        extents: &sources.extents,
         roots,
     };
-    put_head(alloc, out, &words, window, p.params.as_slice())?;
+    put_head(alloc, out, &sources.words, window, p.params.as_slice())?;
     put_block_places(
         alloc,
         out,
@@ -231,11 +299,12 @@ fn put_places(
 }
 
 /// The claims of so many places of a procedure of the unit, behind so many others.
-fn part_of(
+fn part_of<'u>(
     alloc: Global,
-    unit: &Unit,
+    unit: &'u Unit,
     modes: &ModeTable,
     roots: &Roots<'_>,
+    sources: &Sources<'u>,
     p: &Proc,
     skip: usize,
     count: usize,
@@ -246,6 +315,7 @@ fn part_of(
     requires few { IsTrue (list_all has_few_params (program unit.now).procedures) }
     requires modes { table_says modes.now ≡ modes_of (program unit.now) }
     requires roots { roots_in roots.now ≡ roots_of (procedure p.now) }
+    requires sources { AreSources sources.now (program unit.now) (procedure p.now) }
     ensures claims { IfOk result (λ part. map placed part.claims.items
         ≡ claims_between (program unit.now) (procedure p.now) skip count) }
     ensures more { IfOk result (λ part. part.more
@@ -257,7 +327,16 @@ fn part_of(
         left: count,
         more: false,
     };
-    put_places(alloc, &mut claims, unit, modes, roots, &mut window, p)?;
+    put_places(
+        alloc,
+        &mut claims,
+        unit,
+        modes,
+        roots,
+        sources,
+        &mut window,
+        p,
+    )?;
     Ok(Part {
         claims,
         more: window.more,
@@ -267,11 +346,12 @@ fn part_of(
 /// The claims of so many places of the procedure `p` of the unit, behind so many others: the first
 /// place is that of its parameters, then come its statements, in text order. The parts one after
 /// the other are what `claims_of` gives.
-pub fn claims_between(
+pub fn claims_between<'u>(
     alloc: Global,
-    unit: &Unit,
+    unit: &'u Unit,
     modes: &ModeTable,
     roots: &Roots<'_>,
+    sources: &Sources<'u>,
     p: ProcId,
     skip: usize,
     count: usize,
@@ -279,6 +359,9 @@ pub fn claims_between(
     requires unit { IsUnit (program unit.now) }
     requires modes { table_says modes.now ≡ modes_of (program unit.now) }
     requires roots { roots_in roots.now ≡ unit_roots (program unit.now) p.0 }
+    requires sources { (q : Procedure)
+        → slice_get (program unit.now).procedures p.0 ≡ Some q
+        → AreSources sources.now (program unit.now) q }
     ensures claims { IfOk result (λ part. map placed part.claims.items
         ≡ unit_claims_between (program unit.now) p.0 skip count) }
     ensures more { IfOk result (λ part. part.more
@@ -289,6 +372,6 @@ pub fn claims_between(
             claims: Vec::new(alloc),
             more: false,
         }),
-        Some(found) => part_of(alloc, unit, modes, roots, found, skip, count),
+        Some(found) => part_of(alloc, unit, modes, roots, sources, found, skip, count),
     }
 }

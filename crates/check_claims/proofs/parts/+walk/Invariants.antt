@@ -25,7 +25,10 @@ invariant-put_block_places-loop-k l =
     }
 
 abbrev pub decreases-put_block_places : goal.decreases-put_block_places
-decreases-put_block_places l = 2 * nodes_of l.b.now + 1
+decreases-put_block_places l = 3 * nodes_of l.b.now + 1
 
 abbrev pub decreases-put_inner_places : goal.decreases-put_inner_places
-decreases-put_inner_places l = 2 * nodes (statement l.s.now)
+decreases-put_inner_places l = 3 * nodes (statement l.s.now)
+
+abbrev pub decreases-put_under : goal.decreases-put_under
+decreases-put_under l = 3 * nodes_of l.b.now + 2

@@ -15,3 +15,7 @@ part_of-requires-clause-levels c = (unit_short (program c.args.unit.now) c.args.
 
 pub part_of-requires-clause-few : goal.part_of-requires-clause-few
 part_of-requires-clause-few c = unit_few (program c.args.unit.now) c.requires.unit
+
+pub part_of-requires-clause-sources : goal.part_of-requires-clause-sources
+part_of-requires-clause-sources c =
+    c.requires.sources (procedure c.in-Some.found.now) (sym c.in-Some.ensures)
