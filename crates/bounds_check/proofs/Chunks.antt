@@ -96,7 +96,7 @@ module _ (u : Program) (p : Procedure) where
       by None true rest now after h e k = ap (λ t. unless_refused None t after) e ∙ k h
       by None false rest now after h e k = cc
 
-  joined_owed : (os ws : List Owed) (xs ys : List Placed) → IsOwedFor os xs → IsOwedFor ws ys → are_within (os ++ ws) ≡ true
+  pub joined_owed : (os ws : List Owed) (xs ys : List Placed) → IsOwedFor os xs → IsOwedFor ws ys → are_within (os ++ ws) ≡ true
       → IsOwedFor (os ++ ws) (xs ++ ys)
   joined_owed os ws xs ys h k w =
       let front = owed_for_all u p xs in

@@ -1,6 +1,6 @@
 -- How a listing goes on, and what its end says.
 use Rattle.std.proofs.Common.{◌≡◌, ℕ, ◌+◌, ◌-◌, ◌<◌, ◌≤◌, nat_lt, Bool, true, false, List, [], ◌++◌}
-use Rattle.std.proofs.Common.{drop, length, Option, Some, None, Result, Ok, Err, Vec}
+use Rattle.std.proofs.Common.{drop, length, map, slice_get, Option, Some, None, Result, Ok, Err, Vec, IfOk}
 use Rattle.std.proofs.Common.{refl, ap, sym, ◌∙◌, subst, arith}
 use Rattle.std.specs.List.{list_all}
 use Rattle.std.specs.Result.{IsErrAnd}
@@ -14,23 +14,31 @@ use Rattle.affine_places.specs.Seen.{roots_in}
 use Rattle.affine_systems.specs.Amounts.{IsAmount, Counted}
 use Rattle.affine_systems.specs.declared.amount.Amount.{Amount}
 use Rattle.affine_systems.specs.Limits.{are_within}
-use Rattle.affine_systems.specs.Outcomes.{Owed}
+use Rattle.affine_systems.specs.Outcomes.{Owed, plain_obligation}
 use Rattle.affine_systems.specs.declared.obligation.Obligation.{Obligation}
 use Rattle.check_claims.specs.Claim.{Placed}
 use Rattle.check_claims.specs.Claims.{placed_at, claims_of}
 use Rattle.check_claims.specs.Places.{Place, places_of, claims_between, has_more}
 use Rattle.check_claims.specs.Places.{unit_claims_between, unit_has_more, PlacesHaveAllClaims}
+use Rattle.check_claims.specs.Sources.{AreSources}
+use Rattle.std.specs.declared.alloc.AllocError.{AllocError}
+use Rattle.check_claims.specs.PlainClaim.{placed}
+use Rattle.check_claims.specs.declared.parts.Part.{Part}
 use Rattle.bounds_check.specs.Errors.{error_of}
 use Rattle.bounds_check.specs.Laws.{may_be_owed, ClaimsMayBeOwed}
 use Rattle.bounds_check.specs.Obligations.{owed_for_all, first_fault, list_fault}
 use Rattle.bounds_check.specs.Outcomes.{IsRefusal}
 use Rattle.bounds_check.specs.Parts.{claims_before, unit_of, proc_of, listed_of, IsListed}
-use Rattle.bounds_check.specs.Parts.{GoesOn, IsWhole, PartListed}
+use Rattle.bounds_check.specs.Parts.{GoesOn, IsRange, IsWhole, PartListed}
 use Rattle.bounds_check.specs.declared.error.CheckError.{CheckError}
 use Rattle.bounds_check.specs.declared.error.CheckError.TheVariants.{TooManyObligations}
 use Rattle.bounds_check.specs.declared.listing.Listing.{Listing}
+use Rattle.bounds_check.specs.declared.listing.Range.{Range}
 use Rattle.bounds_check.proofs.Parting.{part_goes_on, part_is_full, owed_more, all_before, part_owable}
 use Rattle.bounds_check.proofs.Parting.{fine_more, refused_whole}
+
+some_is : {A : Type 0} (a b : A) → Some a ≡ Some b → a ≡ b
+some_is a b e = cc
 
 below : (m n : ℕ) → nat_lt m n ≡ true → m < n
 below m n h = grind (arith, nat_tests)
@@ -90,6 +98,7 @@ moved l n m a = record {
   writes = l.writes;
   modes = l.modes;
   roots = l.roots;
+  sources = l.sources;
   next = n;
   more = m;
   amount = a;
@@ -105,51 +114,49 @@ module _ (l : Listing) (is : IsListed l) where
   abbrev part : List Placed
   part = claims_between u p l.next 2048
 
-  part_is : (cs : List Placed) → cs ≡ unit_claims_between u l.number.0 l.next 2048 → cs ≡ part
-  part_is cs h =
+  -- what is said by the number of the procedure
+  pub claims_are : (n c : ℕ) (cs : List Placed) → cs ≡ unit_claims_between u l.number.0 n c
+      → cs ≡ claims_between u p n c
+  claims_are n c cs h =
       h
-      ∙ ap (λ (o : Option Procedure). elim o [ None ↦ [] | Some q ↦ claims_between u q l.next 2048 ])
+      ∙ ap (λ (o : Option Procedure). elim o [ None ↦ [] | Some q ↦ claims_between u q n c ])
       is.found
 
-  more_is : (m : Bool) → m ≡ unit_has_more u l.number.0 l.next 2048
+  pub more_are : (n c : ℕ) (m : Bool) → m ≡ unit_has_more u l.number.0 n c → m ≡ has_more u p n c
+  more_are n c m h =
+      h
+      ∙ ap (λ (o : Option Procedure). elim o [ None ↦ false | Some q ↦ has_more u q n c ])
+      is.found
+
+  pub sources_there : (q : Procedure) → slice_get u.procedures l.number.0 ≡ Some q
+      → AreSources l.sources u q
+  sources_there q h =
+      subst (AreSources l.sources u) (some_is p q (sym is.found ∙ h)) is.sources
+
+  more_is : (m : Bool) → m ≡ has_more u p l.next 2048
       → m ≡ nat_lt (l.next + 2048) (length (places_of u p))
   more_is m h =
       h
-      ∙ ap (λ (o : Option Procedure). elim o [ None ↦ false | Some q ↦ has_more u q l.next 2048 ])
-      is.found
       ∙ behind_both l.next 2048 (length (places_of u p)) (length (drop l.next (places_of u p)))
       (length-drop l.next (places_of u p))
 
   module _ (law : PlacesHaveAllClaims) where
-    pub owable_part : ClaimsMayBeOwed → (cs : List Placed)
-        → cs ≡ unit_claims_between u l.number.0 l.next 2048 → list_all (may_be_owed p) cs ≡ true
-    owable_part owed cs h =
-        ap (list_all (may_be_owed p)) (part_is cs h)
-        ∙ part_owable u p at (places_of u p) (may_be_owed p) l.next 2048
+    pub owable_range : ClaimsMayBeOwed → (n c : ℕ)
+        → list_all (may_be_owed p) (claims_between u p n c) ≡ true
+    owable_range owed n c =
+        part_owable u p at (places_of u p) (may_be_owed p) n c
         (ap (list_all (may_be_owed p)) (law u p) ∙ owed u l.number.0 p is.formed is.found)
 
     -- the part is refused
-    refused : (e : CheckError) → IsRefusal e (first_fault u p (listed_of l) part)
+    pub refused_part : (e : CheckError) → IsRefusal e (first_fault u p (listed_of l) part)
         → IsRefusal e (list_fault u p)
-    refused e h =
+    refused_part e h =
         subst (λ cs. IsRefusal e (first_fault u p [] cs)) (law u p)
         (refused_whole u p at (places_of u p) l.next 2048 is.fine e h)
 
-    pub refused_part : (e : CheckError) (cs : List Placed)
-        → cs ≡ unit_claims_between u l.number.0 l.next 2048
-        → IsRefusal e (first_fault u p (listed_of l) cs) → IsRefusal e (list_fault u p)
-    refused_part e cs same h =
-        refused e (subst (λ ds. IsRefusal e (first_fault u p (listed_of l) ds)) (part_is cs same) h)
-
-    module _ (cs : List Placed) (same : cs ≡ unit_claims_between u l.number.0 l.next 2048)
-        (own more : List Owed)
-        (owes : (first_fault u p [] cs ≡ None) × (own ≡ owed_for_all u p cs))
-        (m : more ≡ own) where
-      fine_part : first_fault u p [] part ≡ None
-      fine_part = ap (first_fault u p []) (sym (part_is cs same)) ∙ owes.0
-
-      more_owed : more ≡ owed_for_all u p part
-      more_owed = m ∙ owes.1 ∙ ap (owed_for_all u p) (part_is cs same)
+    module _ (r : Range) (range : IsRange u p l.next 2048 r) where
+      abbrev more : List Owed
+      more = map plain_obligation r.owed.items
 
       -- it passes a limit
       pub full_part : (e : FormError)
@@ -163,29 +170,28 @@ module _ (l : Listing) (is : IsListed l) where
           by form.SystemTooLarge w = absurd w
           by form.WideNumber w = absurd w
           by form.TooManySystems w =
-              refused TooManyObligations
-              (part_is_full u p (listed_of l) part fine_part is.amount.within
-              (ap (λ ws. are_within (listed_of l ++ ws)) (sym more_owed) ∙ w))
+              refused_part TooManyObligations
+              (part_is_full u p (listed_of l) part range.fine is.amount.within
+              (ap (λ ws. are_within (listed_of l ++ ws)) (sym range.owed) ∙ w))
           by form.Memory w = absurd w
 
       -- or it comes behind what is listed
       listed_more : listed_of l ++ more
           ≡ owed_for_all u p (claims_before u p (l.next + 2048))
       listed_more =
-          ap (λ ws. listed_of l ++ ws) more_owed
+          ap (λ ws. listed_of l ++ ws) range.owed
           ∙ sym (owed_more u p at (places_of u p) l.next 2048)
 
-      pub goes_on : (n : ℕ) (b : Bool) (a : Amount) → n ≡ l.next + 2048
-          → b ≡ unit_has_more u l.number.0 l.next 2048
+      pub goes_on : (n : ℕ) (a : Amount) → n ≡ l.next + 2048
           → ((ws : List Owed) → IsAmount ws l.amount → Counted (Ok a) (ws ++ more))
           → l.more ≡ true
-          → GoesOn l (moved l n b a)
-          × (listed_of (moved l n b a) ≡ listed_of l ++ more)
+          → GoesOn l (moved l n r.more a)
+          × (listed_of (moved l n r.more a) ≡ listed_of l ++ more)
           × (l.next < length (places_of u p))
           × (l.next < n)
-      goes_on n b a e f k t =
-          subst (λ (j : ℕ). GoesOn l (moved l j b a)
-          × (listed_of (moved l j b a) ≡ listed_of l ++ more)
+      goes_on n a e k t =
+          subst (λ (j : ℕ). GoesOn l (moved l j r.more a)
+          × (listed_of (moved l j r.more a) ≡ listed_of l ++ more)
           × (l.next < length (places_of u p))
           × (l.next < j)) (sym e) (
             record {
@@ -195,14 +201,15 @@ module _ (l : Listing) (is : IsListed l) where
                 formed = is.formed;
                 found = is.found;
                 roots = is.roots;
+                sources = is.sources;
                 writes = is.writes;
                 modes = is.modes;
                 fine =
                     fine_more u p at (places_of u p) l.next 2048 is.fine
-                    (part_goes_on u p (listed_of l) part fine_part
-                    (ap (λ ws. are_within (listed_of l ++ ws)) (sym more_owed) ∙ counted.within));
+                    (part_goes_on u p (listed_of l) part range.fine
+                    (ap (λ ws. are_within (listed_of l ++ ws)) (sym range.owed) ∙ counted.within));
                 amount = subst (λ ws. IsAmount ws a) listed_more counted;
-                more = more_is b f;
+                more = more_is r.more range.more;
               };
             },
             sym listed_more,
@@ -212,3 +219,17 @@ module _ (l : Listing) (is : IsListed l) where
         where
           counted : IsAmount (listed_of l ++ more) a
           counted = k (listed_of l) is.amount
+
+-- ---- what is told of the claims of some places
+module _ (l : Listing) (is : IsListed l) (n c : ℕ) where
+  pub told_claims : (r : Result Part AllocError)
+      → IfOk r (λ x. map placed x.claims.items ≡ unit_claims_between (unit_of l) l.number.0 n c)
+      → IfOk r (λ x. map placed x.claims.items ≡ claims_between (unit_of l) (proc_of l) n c)
+  told_claims (Ok x) h = claims_are l is n c (map placed x.claims.items) h
+  told_claims (Err e) h = tt
+
+  pub told_more : (r : Result Part AllocError)
+      → IfOk r (λ x. x.more ≡ unit_has_more (unit_of l) l.number.0 n c)
+      → IfOk r (λ x. x.more ≡ has_more (unit_of l) (proc_of l) n c)
+  told_more (Ok x) h = more_are l is n c x.more h
+  told_more (Err e) h = tt

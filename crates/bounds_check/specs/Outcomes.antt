@@ -39,15 +39,6 @@ abbrev pub Finds : {A : Type 0} → Result A CheckError → Option Fault → Typ
 Finds (Ok t) f = f ≡ None
 Finds (Err e) f = IsRefusal e f
 
--- what claims owe, where others are owed before them and no claim is refused; else the first fault.
--- That all together pass a limit is not told.
-abbrev pub AreOwedBehind :
-    {A : Type 0} → Result (Vec Obligation A) CheckError → Program → Procedure → List Owed
-    → List Placed → Type 0
-AreOwedBehind (Ok os) u p before cs =
-    (first_fault u p [] cs ≡ None) × (map plain_obligation os.items ≡ owed_for_all u p cs)
-AreOwedBehind (Err e) u p before cs = IsRefusal e (first_fault u p before cs)
-
 -- a procedure's obligations come exactly where none of its claims is refused, else the first fault
 abbrev pub AreObligations : {A : Type 0} → Result (Vec Obligation A) CheckError → Program → Procedure → Type 0
 AreObligations (Ok os) u p = (list_fault u p ≡ None) × (map plain_obligation os.items ≡ obligations_of u p)

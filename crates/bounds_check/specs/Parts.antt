@@ -15,12 +15,14 @@ use Rattle.affine_systems.specs.Amounts.{IsAmount}
 use Rattle.affine_systems.specs.Outcomes.{Owed, plain_obligation}
 use Rattle.affine_systems.specs.declared.obligation.Obligation.{Obligation}
 use Rattle.check_claims.specs.Claim.{Placed}
-use Rattle.check_claims.specs.Places.{places_of, claims_at}
+use Rattle.check_claims.specs.Places.{places_of, claims_at, claims_between, has_more}
+use Rattle.check_claims.specs.Sources.{AreSources}
 use Rattle.bounds_check.specs.Obligations.{owed_for_all, obligations_of, first_fault, list_fault}
 use Rattle.bounds_check.specs.Outcomes.{IsRefusal}
 use Rattle.bounds_check.specs.declared.error.CheckError.{CheckError}
 use Rattle.bounds_check.specs.declared.error.CheckError.TheVariants.{Memory}
 use Rattle.bounds_check.specs.declared.listing.Listing.{Listing}
+use Rattle.bounds_check.specs.declared.listing.Range.{Range}
 
 module _ (u : Program) (p : Procedure) where
   -- the claims of so many first places of the procedure, and what they owe
@@ -41,11 +43,18 @@ proc_of l = procedure l.proc.now
 abbrev pub listed_of : Listing → List Owed
 listed_of l = owed_before (unit_of l) (proc_of l) l.next
 
+-- what so many places owe, behind so many others, of which nothing is refused
+pub record IsRange (u : Program) (p : Procedure) (skip count : ℕ) (r : Range) : Type 0 where
+  pub fine : first_fault u p [] (claims_between u p skip count) ≡ None
+  pub owed : map plain_obligation r.owed.items ≡ owed_for_all u p (claims_between u p skip count)
+  pub more : r.more ≡ has_more u p skip count
+
 -- so many places of a procedure are listed, and nothing is refused of them
 pub record IsListed (l : Listing) : Type 0 where
   pub formed : IsUnit (unit_of l)
   pub found : slice_get (unit_of l).procedures l.number.0 ≡ Some (proc_of l)
   pub roots : roots_in l.roots ≡ roots_of (proc_of l)
+  pub sources : AreSources l.sources (unit_of l) (proc_of l)
   pub writes : IsTable (length (unit_of l).fields) (unit_writes (unit_of l).procedures) l.writes.now
   pub modes : table_says l.modes.now ≡ modes_of (unit_of l)
   pub fine :

@@ -47,7 +47,7 @@ fn count_at(claims: &[Placed], place: &Path) -> usize
 }
 
 /// The obligations of claims of a procedure.
-fn obligations_of_claims(
+pub(crate) fn obligations_of_claims(
     alloc: Global,
     site: &Site<'_, '_>,
     claims: &[Placed],
@@ -129,7 +129,7 @@ fn listed_in_chunks<R: Threads + Sync>(
 
 /// The obligations of claims of a procedure. Many claims are listed in chunks; where one is
 /// refused, they are listed again in turn, so that the first fault is found.
-pub(crate) fn listed<R: Threads + Sync>(
+fn listed<R: Threads + Sync>(
     rt: &R,
     alloc: Global,
     site: &Site<'_, '_>,

@@ -1,6 +1,7 @@
 //! The obligations of a procedure, in parts.
-ghost use Rattle.std.specs.Prelude.{◌≡◌, ◌+◌, List, IfOk, IfErr, IsTrue, map};
+ghost use Rattle.std.specs.Prelude.{◌≡◌, ◌+◌, ℕ, List, IfOk, IfErr, IsTrue, map};
 ghost use Rattle.std.specs.List.{list_all};
+ghost use Rattle.exo_tree.specs.Tree.{Procedure, Program};
 ghost use Rattle.exo_tree.specs.PlainProcedure.{procedure};
 ghost use Rattle.exo_tree.specs.PlainUnit.{program};
 ghost use Rattle.affine_systems.specs.Amounts.{IsAmount};
@@ -9,38 +10,63 @@ ghost use Rattle.check_claims.specs.PlainClaim.{placed};
 ghost use Rattle.bounds_check.specs.Laws.{may_be_owed};
 ghost use Rattle.bounds_check.specs.Obligations.{first_fault};
 ghost use Rattle.bounds_check.specs.Outcomes.{IsRefusal, Finds};
+ghost use Rattle.bounds_check.specs.Parts.{IsRange};
 ghost use Rattle.bounds_check.specs.Sites.{IsSite};
 ghost use Rattle.bounds_check.specs.declared.error.CheckError.TheVariants.{Memory};
 
 use crate::claims::{Site, put_claims};
 use crate::error::CheckError;
 use crate::laws::claims_may_be_owed;
-use crate::list::listed;
+use crate::list::obligations_of_claims;
 use affine_places::Roots;
 use affine_systems::{Amount, Obligation, OwedList};
 use check_claims::laws::places_have_all_claims;
-use check_claims::{Placed, claims_between};
+use check_claims::{Part, Placed, Sources, claims_between};
 use check_facts::Cursor;
 use check_facts::laws::well_formed_procedures_may_be_walked;
 use config_state::FieldTable;
 use exo_modes::ModeTable;
 use exo_tree::{Proc, ProcId, Unit};
-use std::alloc::Global;
-use std::thread::Threads;
+use std::alloc::{AllocError, Global};
+use std::thread::{Threads, join};
 
 /// How many places a part has, but for the last one.
 const PLACES: usize = 2_048;
 
-/// The number of places that lie before the next part; one past the greatest number is answered as
-/// want of memory.
-fn behind(places: usize) -> Result<usize, CheckError>
-    ensures sum { IfOk result (λ n. n ≡ places + 2048) }
+/// The number of places behind so many more; one past the greatest number is answered as want of
+/// memory.
+fn behind(places: usize, more: usize) -> Result<usize, CheckError>
+    ensures sum { IfOk result (λ n. n ≡ places + more) }
     ensures memory { IfErr result (λ e. e ≡ Memory) }
 {
-    match places.checked_add(PLACES) {
+    match places.checked_add(more) {
         Some(sum) => Ok(sum),
         None => Err(CheckError::Memory),
     }
+}
+
+/// What some places of a procedure owe.
+#[derive(Drop)]
+pub(crate) struct Range {
+    pub(crate) owed: Vec<Obligation>,
+    /// Whether the procedure has a place behind those.
+    pub(crate) more: bool,
+}
+
+/// What places owe that come one after the other.
+fn joined_ranges(alloc: Global, first: Range, second: Range) -> Result<Range, CheckError>
+    ensures { (u : Program) (p : Procedure) (n c d : ℕ)
+        → IsRange u p n c first
+        → IsRange u p (n + c) d second
+        → IfOk result (IsRange u p n (c + d)) }
+{
+    let mut all = OwedList::new(alloc);
+    all.push_all(first.owed)?;
+    all.push_all(second.owed)?;
+    Ok(Range {
+        owed: all.into_items(),
+        more: second.more,
+    })
 }
 
 /// Looks for the first refusal of claims, behind so much that is owed before them: claim by claim,
@@ -100,24 +126,26 @@ pub struct Listing<'u> {
     writes: &'u FieldTable,
     modes: &'u ModeTable,
     roots: Roots<'u>,
+    sources: Sources<'u>,
     next: usize,
     more: bool,
     amount: Amount,
 }
 
 impl<'u> Listing<'u> {
-    ghost use Rattle.std.specs.Prelude.{◌≡◌, true, false, IsTrue, length, map, slice_get};
-    ghost use Rattle.std.specs.List.{list_all};
+    ghost use Rattle.std.specs.Prelude.{◌≡◌, true, false, IfErr, IfOk, length, map, slice_get};
     ghost use Rattle.exo_tree.specs.PlainUnit.{program};
     ghost use Rattle.exo_meaning.specs.Units.{IsUnit};
     ghost use Rattle.meaning_laws.specs.UnitFields.{unit_writes};
     ghost use Rattle.config_state.specs.FieldSets.{IsTable};
     ghost use Rattle.exo_modes.specs.Marks.{modes_of};
     ghost use Rattle.exo_modes.specs.Seen.{table_says};
+    ghost use Rattle.std.specs.Thread.{IsSync};
     ghost use Rattle.check_claims.specs.PlainClaim.{placed};
-    ghost use Rattle.bounds_check.specs.Laws.{may_be_owed};
-    ghost use Rattle.bounds_check.specs.Outcomes.{AreOwedBehind};
-    ghost use Rattle.bounds_check.specs.Parts.{BeginsListing, IsListed, IsWhole, PartListed};
+    ghost use Rattle.check_claims.specs.Places.{claims_between, has_more};
+    ghost use Rattle.bounds_check.specs.Obligations.{list_fault};
+    ghost use Rattle.bounds_check.specs.Parts.{BeginsListing, IsListed, IsRange, IsWhole};
+    ghost use Rattle.bounds_check.specs.Parts.{PartListed};
     ghost use Rattle.bounds_check.specs.Parts.{listed_of, proc_of, unit_of};
 
     /// Nothing of the procedure `number` of the unit is listed yet; None where the unit has no such
@@ -141,6 +169,7 @@ impl<'u> Listing<'u> {
             return Ok(None);
         };
         let roots = Roots::of(alloc, proc)?;
+        let sources = Sources::of(alloc, unit, proc)?;
         Ok(Some(Listing {
             unit,
             proc,
@@ -148,6 +177,7 @@ impl<'u> Listing<'u> {
             writes,
             modes,
             roots,
+            sources,
             next: 0,
             more: true,
             amount: Amount::none(),
@@ -162,19 +192,33 @@ impl<'u> Listing<'u> {
         self.amount.count()
     }
 
-    /// What claims of the procedure owe behind what is listed; else the first refusal.
-    fn owed_by<R: Threads + Sync>(
-        &self,
-        rt: &R,
-        alloc: Global,
-        claims: &[Placed],
-    ) -> Result<Vec<Obligation>, CheckError>
+    /// The claims of so many places, behind so many others.
+    fn claims(&self, alloc: Global, skip: usize, count: usize) -> Result<Part, AllocError>
         requires listed { IsListed self.now }
-        requires owable { IsTrue
-            (list_all (may_be_owed (proc_of self.now)) (map placed claims.now)) }
-        ensures { AreOwedBehind result (unit_of self.now) (proc_of self.now)
-            (listed_of self.now) (map placed claims.now) }
+        ensures claims { IfOk result (λ part. map placed part.claims.items
+            ≡ claims_between (unit_of self.now) (proc_of self.now) skip count) }
+        ensures more { IfOk result (λ part. part.more
+            ≡ has_more (unit_of self.now) (proc_of self.now) skip count) }
     {
+        claims_between(
+            alloc,
+            self.unit,
+            self.modes,
+            &self.roots,
+            &self.sources,
+            self.number,
+            skip,
+            count,
+        )
+    }
+
+    /// What so many places owe, behind so many others; an error where they are refused.
+    fn owed_between(&self, alloc: Global, skip: usize, count: usize) -> Result<Range, CheckError>
+        requires listed { IsListed self.now }
+        ensures { IfOk result (IsRange (unit_of self.now) (proc_of self.now) skip count) }
+    {
+        claims_may_be_owed();
+        places_have_all_claims();
         well_formed_procedures_may_be_walked();
         let site = Site {
             unit: self.unit,
@@ -182,9 +226,101 @@ impl<'u> Listing<'u> {
             roots: &self.roots,
             writes: self.writes,
         };
-        match listed(rt, alloc, &site, claims) {
-            Ok(owed) => Ok(owed),
-            Err(_) => Err(refusal(alloc, &site, claims, self.amount)),
+        let part = self.claims(alloc, skip, count)?;
+        let owed = obligations_of_claims(alloc, &site, &part.claims)?;
+        Ok(Range {
+            owed,
+            more: part.more,
+        })
+    }
+
+    /// The same of 1,024 places, half of them in a thread of their own where one can be made.
+    fn owed_by_half<R: Threads + Sync>(
+        &self,
+        rt: &R,
+        alloc: Global,
+        skip: usize,
+    ) -> Result<Range, CheckError>
+        requires listed { IsListed self.now }
+        ensures { IfOk result (IsRange (unit_of self.now) (proc_of self.now) skip 1024) }
+    {
+        let middle = behind(skip, 512)?;
+        let front = move || -> Result<Range, CheckError>
+            requires { IsListed self.now }
+            ensures { IfOk result
+                (IsRange (unit_of self.entry.now) (proc_of self.entry.now) skip 512) }
+        { self.owed_between(alloc, skip, 512) };
+        let back = move || -> Result<Range, CheckError>
+            requires { IsListed self.now }
+            ensures { IfOk result
+                (IsRange (unit_of self.entry.now) (proc_of self.entry.now) middle 512) }
+        { self.owed_between(alloc, middle, 512) };
+        let (first, second) = join(rt, front, back);
+        joined_ranges(alloc, first?, second?)
+    }
+
+    /// The same of 2,048 places, in up to four threads.
+    fn owed_by_quarter<R: Threads + Sync>(
+        &self,
+        rt: &R,
+        alloc: Global,
+        skip: usize,
+    ) -> Result<Range, CheckError>
+        requires listed { IsListed self.now }
+        ensures { IfOk result (IsRange (unit_of self.now) (proc_of self.now) skip 2048) }
+    {
+        let middle = behind(skip, 1024)?;
+        let front = move || -> Result<Range, CheckError>
+            requires { IsSync R.row × IsListed self.now }
+            ensures { IfOk result
+                (IsRange (unit_of self.entry.now) (proc_of self.entry.now) skip 1024) }
+        { self.owed_by_half(rt, alloc, skip) };
+        let back = move || -> Result<Range, CheckError>
+            requires { IsSync R.row × IsListed self.now }
+            ensures { IfOk result
+                (IsRange (unit_of self.entry.now) (proc_of self.entry.now) middle 1024) }
+        { self.owed_by_half(rt, alloc, middle) };
+        let (first, second) = join(rt, front, back);
+        joined_ranges(alloc, first?, second?)
+    }
+
+    /// Why the next part is refused; `Memory` where it is not.
+    fn refused(&self, alloc: Global) -> CheckError
+        requires listed { IsListed self.now }
+        ensures { IsRefusal result (list_fault (unit_of self.now) (proc_of self.now)) }
+    {
+        claims_may_be_owed();
+        places_have_all_claims();
+        well_formed_procedures_may_be_walked();
+        let site = Site {
+            unit: self.unit,
+            proc: self.proc,
+            roots: &self.roots,
+            writes: self.writes,
+        };
+        match self.claims(alloc, self.next, PLACES) {
+            Ok(part) => refusal(alloc, &site, &part.claims, self.amount),
+            Err(_) => CheckError::Memory,
+        }
+    }
+
+    /// What the next part owes: of the first one without a thread, since it is the only one of most
+    /// procedures.
+    fn next_range<R: Threads + Sync>(&self, rt: &R, alloc: Global) -> Result<Range, CheckError>
+        requires listed { IsListed self.now }
+        ensures owed { IfOk result
+            (IsRange (unit_of self.now) (proc_of self.now) self.now.next 2048) }
+        ensures refused { IfErr result
+            (λ e. IsRefusal e (list_fault (unit_of self.now) (proc_of self.now))) }
+    {
+        let range = if self.next == 0 {
+            self.owed_between(alloc, 0, PLACES)
+        } else {
+            self.owed_by_quarter(rt, alloc, self.next)
+        };
+        match range {
+            Ok(range) => Ok(range),
+            Err(_) => Err(self.refused(alloc)),
         }
     }
 
@@ -199,7 +335,7 @@ impl<'u> Listing<'u> {
         self.more
     }
 
-    /// The obligations of the next 2,048 places, which are listed in threads where there are many.
+    /// The obligations of the next 2,048 places, which but for the first are listed in threads.
     /// After a refusal, which is that of the whole list, nothing is said of further parts.
     pub fn next_part<R: Threads + Sync>(
         &mut self,
@@ -210,21 +346,11 @@ impl<'u> Listing<'u> {
         requires more { self.old.more ≡ true }
         ensures { PartListed result self.old self.new }
     {
-        claims_may_be_owed();
         places_have_all_claims();
-        let part = claims_between(
-            alloc,
-            self.unit,
-            self.modes,
-            &self.roots,
-            self.number,
-            self.next,
-            PLACES,
-        )?;
-        let owed = self.owed_by(rt, alloc, &part.claims)?;
-        self.amount = self.amount.grown_by(&owed)?;
-        self.next = behind(self.next)?;
-        self.more = part.more;
-        Ok(owed)
+        let range = self.next_range(rt, alloc)?;
+        self.amount = self.amount.grown_by(&range.owed)?;
+        self.next = behind(self.next, PLACES)?;
+        self.more = range.more;
+        Ok(range.owed)
     }
 }

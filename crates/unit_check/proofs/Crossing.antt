@@ -18,11 +18,8 @@ use Rattle.std.specs.declared.cmp.PartialEq as eq
 use Rattle.std.specs.declared.hash.BuildHasher as builder
 use Rattle.std.specs.declared.hash.Hash as hash
 use Rattle.std.specs.declared.hash.Hasher as hasher
-use Rattle.exo_modes.below.indexmap.specs.contracts.columns.Columns as Columns
-use Rattle.exo_modes.below.indexmap.specs.contracts.index_table.Bucket as Bucket
-use Rattle.exo_modes.below.indexmap.specs.contracts.index_table.IndexTable as IndexTable
-use Rattle.exo_modes.below.indexmap.specs.contracts.index_table.group.Group as Group
 use Rattle.exo_modes.below.indexmap.specs.contracts.map.IndexMap as IndexMap
+use Rattle.exo_modes.below.indexmap.proofs.map.IndexMap.TheSendSync as map
 use Rattle.exo_tree.proofs.number.Id.TheSendSync as id
 use Rattle.exo_tree.proofs.number.ProcId.TheSendSync as proc_id
 use Rattle.exo_modes.proofs.table.ModeTable.TheSendSync as modes
@@ -31,27 +28,20 @@ use Rattle.bounds_check.below.affine_places.specs.contracts.layout.Extents as Ex
 use Rattle.bounds_check.below.affine_places.specs.contracts.layout.Layout as Layout
 use Rattle.bounds_check.below.affine_places.specs.contracts.rooted.Rooted as Rooted
 use Rattle.bounds_check.below.affine_places.specs.contracts.roots.Roots as Roots
+use Rattle.bounds_check.below.text_show.specs.contracts.names.Names as Names
+use Rattle.bounds_check.below.text_show.specs.contracts.words.Words as Words
+use Rattle.check_claims.specs.contracts.extents.Extents as Claimed
+use Rattle.check_claims.specs.contracts.sources.Sources as Sources
 use Rattle.affine_systems.proofs.amount.Amount.TheSendSync as amount
-use Rattle.bounds_check.proofs.Crosses.{Indices-sync, Proc-sync, Unit-sync}
+use Rattle.bounds_check.proofs.Crosses.{Indices-send, Indices-sync, Proc-sync, Unit-sync}
 use Rattle.bounds_check.specs.contracts.listing.Listing as Listing
 
 -- ---- maps
-module _ (K V : RattleType) where
-  columns_send : IsSend K → IsSend V → IsSend (Columns.the_field K V Global.the_row ghosts).row
-  columns_send k v = let a = Vec-send K k in let b = Vec-send V v in search sendable depth 20
-
-table_send : IsSend (IndexTable.the_field Global.the_row ghosts).row
-table_send =
-    let a = Vec-send Group.the_row (search sendable depth 20) in
-    let b = Vec-send Bucket.the_row (search sendable depth 20) in
-    search sendable depth 20
-
-module _ (K V S H : RattleType) (e : eq.Ghosts K.Denot) (h : hash.Ghosts K.Denot)
-    (b : builder.Ghosts S.Denot H.Denot) (w : hasher.Ghosts H.Denot) where
+module _ (K V S T : RattleType) (e : eq.Ghosts K.Denot) (h : hash.Ghosts K.Denot)
+    (b : builder.Ghosts S.Denot T.Denot) (w : hasher.Ghosts T.Denot) where
   map_send : IsSend K → IsSend V → IsSend S
-      → IsSend (IndexMap.the_field K V S Global.the_row H e h b w ghosts).row
-  map_send k v s =
-      let c = columns_send K V k v in let t = table_send in search sendable depth 20
+      → IsSend (IndexMap.the_field K V S Global.the_row T e h b w ghosts).row
+  map_send k v s = map.the_send K V S Global.the_row T e h b w ghosts k v s std.send std.frees
 
 -- ---- the roots of a procedure's names
 module _ (a : NamedLft) where
@@ -72,11 +62,31 @@ module _ (a : NamedLft) where
   Roots-send : IsSend (Roots.the_field a).row
   Roots-send = let r = Rooted-send in search (map_send, sendable) depth 20
 
+  -- ---- the words and the extents of a procedure
+  Claimed-send : IsSend Claimed.the_row
+  Claimed-send =
+      let i = Indices-send in
+      as_row_send Claimed.the_field (search (map_send, sendable) depth 20)
+
+  Names-send : IsSend (Names.the_row a)
+  Names-send = as_row_send (Names.the_field a) (search (map_send, sendable) depth 20)
+
+  Words-send : IsSend (Words.the_row a)
+  Words-send =
+      let u = Unit-sync in let n = Names-send in
+      as_row_send (Words.the_field a) (search sendable depth 20)
+
+  Sources-send : IsSend (Sources.the_row a)
+  Sources-send =
+      let w = Words-send in let e = Claimed-send in
+      as_row_send (Sources.the_field a) (search sendable depth 20)
+
   -- ---- a listing
   Listing-field_send : IsSend (Listing.the_field a).row
   Listing-field_send =
       let u = Unit-sync in let p = Proc-sync in let n = proc_id.the_field_send in
       let f = fields.the_sync in let m = modes.the_sync in let r = Roots-send in
+      let s = Sources-send in
       let o = amount.the_field_send in search sendable depth 20
 
   Listing-send : IsSend (Listing.the_row a)

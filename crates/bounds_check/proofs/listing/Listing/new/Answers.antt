@@ -22,6 +22,7 @@ returns c =
         formed = c.requires.unit;
         found = found;
         roots = c.in_ok-roots.ensures;
+        sources = c.in_ok-sources.ensures;
         writes = c.requires.table;
         modes = c.requires.modes;
         fine = refl;
