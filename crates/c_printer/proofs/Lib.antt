@@ -3,4 +3,5 @@ pub mod Parameters
 pub mod Marking
 pub mod Agreed
 pub mod Listing
+pub mod Finding
 pub mod Ranks

@@ -4,6 +4,7 @@
 mod counted;
 mod field_marks;
 mod fields;
+mod found;
 mod functions;
 mod globals;
 mod headers;

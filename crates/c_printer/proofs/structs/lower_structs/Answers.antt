@@ -1,10 +1,8 @@
-use Rattle.std.proofs.Common.{map, arith}
-use Rattle.c_tree.specs.Plain.{plain_struct, plain_function}
-use Rattle.c_lowered.specs.LoweredUnit.{structs_of}
-use Rattle.c_printer.proofs.Ranks.{next_rank}
+use Rattle.std.proofs.Common.{◌∙◌, map}
+use Rattle.c_tree.specs.Plain.{plain_function}
+use Rattle.c_lowered.specs.LoweredUnit.{all_structs}
+use Rattle.c_printer.proofs.Ranks.{found_are}
 use Rattle.c_printer.proofs.structs.lower_structs.Goals as goal
 
-pub loop-k-preserved : goal.loop-k-preserved
-loop-k-preserved c =
-    let fs = map plain_function c.args.functions.now in
-    next_rank fs c.loop-k.k (map plain_struct c.loop-k.made.items) (map plain_struct c.put_rank.new.made.items) (structs_of fs) (omega arith) c.in_ok-put_rank.ensures c.loop-k.invariant
+pub returns : goal.returns
+returns c = c.in_ok-made.ensures ∙ found_are (map plain_function c.args.functions.now) c.in_ok-found.found c.in_ok-found.ensures all_structs
