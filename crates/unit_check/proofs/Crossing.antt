@@ -63,23 +63,17 @@ module _ (a : NamedLft) where
   Roots-send = let r = Rooted-send in search (map_send, sendable) depth 20
 
   -- ---- the words and the extents of a procedure
-  Claimed-send : IsSend Claimed.the_row
-  Claimed-send =
-      let i = Indices-send in
-      as_row_send Claimed.the_field (search (map_send, sendable) depth 20)
+  Claimed-send : IsSend Claimed.the_field.row
+  Claimed-send = let i = Indices-send in search (map_send, sendable) depth 20
 
-  Names-send : IsSend (Names.the_row a)
-  Names-send = as_row_send (Names.the_field a) (search (map_send, sendable) depth 20)
+  Names-send : IsSend (Names.the_field a).row
+  Names-send = search (map_send, sendable) depth 20
 
-  Words-send : IsSend (Words.the_row a)
-  Words-send =
-      let u = Unit-sync in let n = Names-send in
-      as_row_send (Words.the_field a) (search sendable depth 20)
+  Words-send : IsSend (Words.the_field a).row
+  Words-send = let u = Unit-sync in let n = Names-send in search sendable depth 20
 
-  Sources-send : IsSend (Sources.the_row a)
-  Sources-send =
-      let w = Words-send in let e = Claimed-send in
-      as_row_send (Sources.the_field a) (search sendable depth 20)
+  Sources-send : IsSend (Sources.the_field a).row
+  Sources-send = let w = Words-send in let e = Claimed-send in search sendable depth 20
 
   -- ---- a listing
   Listing-field_send : IsSend (Listing.the_field a).row
