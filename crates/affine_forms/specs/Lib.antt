@@ -1,6 +1,7 @@
 pub mod Bounds
 pub mod Affine
 pub mod System
+pub mod Hashed
 pub mod Atoms
 pub mod Forms
 pub mod Outcomes

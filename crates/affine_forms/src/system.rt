@@ -7,6 +7,9 @@ ghost use Rattle.std.specs.Prelude.{IsTrue, not, pos, map, length, is_some, nat_
 ghost use Rattle.std.specs.List.{list_all};
 ghost use Rattle.std.specs.Ordering.{int_eq};
 ghost use Rattle.affine_forms.specs.Bounds.{is_narrow, is_increasing, are_below};
+ghost use Rattle.affine_forms.specs.Hashed.{hashed_term};
+
+use std::hash::{Hash, Hasher};
 
 /// The greatest size of a number in a system.
 const WIDEST: u128 = 1 << 100;
@@ -25,7 +28,7 @@ pub fn is_narrow(z: i128) -> bool
 }
 
 /// A variable with its coefficient, which is not 0 and at most 2^100 in size.
-#[derive(Clone, Copy, PartialEq, Eq, Hash, Drop, Debug)]
+#[derive(Clone, Copy, PartialEq, Eq, Drop, Debug)]
 pub struct Term {
     pub variable: u32,
     pub coefficient: i128,
@@ -58,6 +61,31 @@ impl Term {
             None
         }
     }
+}
+
+/// Of a term one number is hashed, which takes less time than its parts.
+impl Hash for Term {
+    ghost use Rattle.std.proofs.Common.{rules};
+    ghost use Rattle.std.specs.Hash as fed;
+    ghost use Rattle.std.specs.Cmp.Rules.{hashing};
+    ghost use Rattle.affine_forms.specs.Hashed.{hashed_term};
+
+    ghost hash_input = { λ t. fed.u64 (hashed_term t.variable t.coefficient) };
+
+    ghost respects_eq = { Prim.search (hashing, rules) };
+
+    fn hash<H: Hasher>(&self, state: &mut H) {
+        state.write_u64(hashed_term(self.variable, self.coefficient));
+    }
+}
+
+/// The low bits of a coefficient's size, its sign, and the low bits of its variable.
+fn hashed_term(variable: u32, coefficient: i128) -> u64
+    ensures { result ≡ hashed_term variable coefficient }
+{
+    let size = (coefficient.unsigned_abs() % 0x1_0000_0000_0000) as u64;
+    let sign = if coefficient < 0 { 64 } else { 0 };
+    size * 128 + sign + variable as u64 % 64
 }
 
 /// Whether the variables of the terms increase.

@@ -17,14 +17,14 @@ ghost use Rattle.affine_places.specs.Seen.{plain_layout, plain_root, roots_in};
 use crate::layout::{Extents, Layout};
 use crate::rooted::{Rooted, first_dims, spanned};
 use exo_tree::{Block, Coords, Id, Indices, ParamKind, Params, Proc, ProcId, Stmt, Unit};
-use indexmap::IndexMap;
 use std::alloc::{AllocError, Global};
+use std::collections::BTreeMap;
 
 /// For each name of a procedure that stands for a buffer: its root, a parameter or an allocation, and the dimension
 /// of the root over which each coordinate of the name runs.
 #[derive(Drop)]
 pub struct Roots<'a> {
-    pub(crate) table: IndexMap<u32, Rooted<'a>>,
+    pub(crate) table: BTreeMap<u32, Rooted<'a>>,
 }
 
 impl<'a> Roots<'a> {
@@ -33,7 +33,7 @@ impl<'a> Roots<'a> {
         ensures { roots_in result ≡ no_roots }
     {
         Roots {
-            table: IndexMap::new(alloc),
+            table: BTreeMap::new(alloc),
         }
     }
 

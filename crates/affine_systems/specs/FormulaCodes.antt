@@ -23,8 +23,10 @@ code_formula (Either f g) = gcons (gnum 2) (gcons (code_formula f) (code_formula
 
 pub same_formula : (f g : Formula) → code_formula f ≡ code_formula g → f ≡ g
 same_formula (Says c) (Says d) p = ap Says (same_constraint c d (ap right p))
-same_formula (Both f g) (Both h k) p = ap₂ Both (same_formula f h (ap (λ z. left (right z)) p)) (same_formula g k (ap (λ z. right (right z)) p))
-same_formula (Either f g) (Either h k) p = ap₂ Either (same_formula f h (ap (λ z. left (right z)) p)) (same_formula g k (ap (λ z. right (right z)) p))
+same_formula (Both f g) (Both h k) p = ap₂ Both (same_formula f h (ap (λ z. left (right z)) p))
+    (same_formula g k (ap (λ z. right (right z)) p))
+same_formula (Either f g) (Either h k) p = ap₂ Either (same_formula f h (ap (λ z. left (right z)) p))
+    (same_formula g k (ap (λ z. right (right z)) p))
 same_formula _ _ p = let e = ap tag p in absurd (omega arith)
 
 abbrev pub formula_code : Coded Formula

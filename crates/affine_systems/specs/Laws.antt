@@ -13,8 +13,16 @@ HasPointIn v (cs ∷ css) = IsIntegerPoint (system cs) (map (atom_value v) (made
 
 -- values of the atoms at which the context is met and the claim is not are a point of one of the claim's systems
 abbrev pub SystemsLaw : Type 0
-SystemsLaw = (v : Valuation) (context : List Formula) (claim : Formula) → KeepsKinds v → all_met v context ≡ true → is_met v claim ≡ false → HasPointIn v (failing_cases context claim)
+SystemsLaw = (v : Valuation) (context : List Formula) (claim : Formula)
+    → KeepsKinds v
+    → all_met v context ≡ true
+    → is_met v claim ≡ false
+    → HasPointIn v (failing_cases context claim)
 
 -- where no system of a claim has an integer point, the claim holds at all values of the atoms at which its context does
 abbrev pub ShownLaw : Type 0
-ShownLaw = (v : Valuation) (context : List Formula) (claim : Formula) → KeepsKinds v → IsShown context claim → all_met v context ≡ true → is_met v claim ≡ true
+ShownLaw = (v : Valuation) (context : List Formula) (claim : Formula)
+    → KeepsKinds v
+    → IsShown context claim
+    → all_met v context ≡ true
+    → is_met v claim ≡ true

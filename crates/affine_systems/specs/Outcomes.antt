@@ -54,8 +54,14 @@ IsAnswer (Err e) s what place = IsRefusal e s
 abbrev pub HasPointAmong : Valuation → List (List Constraint) → List Obligation → Type 0
 HasPointAmong v [] os = ⊥
 HasPointAmong v (cs ∷ css) [] = ⊥
-HasPointAmong v (cs ∷ css) (o ∷ os) = IsIntegerPoint (plain_system o.system) (map (atom_value v) (made_of nothing cs).atoms) ⊎ HasPointAmong v css os
+HasPointAmong v (cs ∷ css) (o ∷ os) =
+    IsIntegerPoint (plain_system o.system) (map (atom_value v) (made_of nothing cs).atoms)
+    ⊎ HasPointAmong v css os
 
 -- values at which the context is met and the claim fails, and at which fields keep their kinds, are a point of one of the systems
 abbrev pub FailuresArePoints : List Formula → Formula → List Obligation → Type 0
-FailuresArePoints context claim os = (v : Valuation) → KeepsKinds v → all_met v context ≡ true → is_met v claim ≡ false → HasPointAmong v (failing_cases context claim) os
+FailuresArePoints context claim os = (v : Valuation)
+    → KeepsKinds v
+    → all_met v context ≡ true
+    → is_met v claim ≡ false
+    → HasPointAmong v (failing_cases context claim) os

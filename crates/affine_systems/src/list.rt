@@ -89,6 +89,11 @@ impl OwedList {
         if terms > MOST_TERMS {
             return Err(FormError::TooManySystems);
         }
+        if self.items.is_empty() {
+            self.items = more;
+            self.terms = terms;
+            return Ok(());
+        }
         match self.items.append(&mut more) {
             Ok(()) => {}
             Err(_) => return Err(FormError::Memory),

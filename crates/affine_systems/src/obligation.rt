@@ -162,7 +162,7 @@ fn owed_in(
     requires { length (plain_cases cases.now) ≤ 64 }
     ensures { IsAnswer result (stated_in (plain_cases cases.now)) what.now place.now }
 {
-    let mut owed = Vec::new(alloc);
+    let mut owed = Vec::with_capacity(alloc, cases.len())?;
     for case in cases {
         let system = match system_of_case(alloc, case) {
             Ok(s) => s,

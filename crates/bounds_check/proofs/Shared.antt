@@ -1,21 +1,12 @@
 -- Threads may share what a procedure's claims are told by.
-use denote.RattleType.{RattleType}
 use denote.Ref.{NamedLft}
 use denote.Struct.Declared.{shape}
 use denote.Param.Send.{IsSync, struct_sync, sendable}
 use denote.Param.SendFields.{as_row_sync}
-use Rattle.std.proofs.Crossing as std
 use Rattle.std.proofs.Crossing.{Vec-sync}
-use Rattle.std.specs.contracts.alloc.Global as Global
-use Rattle.std.specs.contracts.impls.GlobalAllocator.TheImpl.{ghosts}
-use Rattle.std.specs.declared.cmp.PartialEq as eq
-use Rattle.std.specs.declared.hash.BuildHasher as builder
-use Rattle.std.specs.declared.hash.Hash as hash
-use Rattle.std.specs.declared.hash.Hasher as hasher
+use Rattle.std.proofs.MapsCrossing.{BTreeMap-sync}
 use Rattle.exo_tree.proofs.number.Id.TheSendSync as id
 use Rattle.config_state.proofs.set.FieldTable.TheSendSync as table
-use Rattle.affine_places.below.indexmap.specs.contracts.map.IndexMap as IndexMap
-use Rattle.affine_places.below.indexmap.proofs.map.IndexMap.TheSendSync as map
 use Rattle.affine_places.specs.contracts.layout.Extents as Extents
 use Rattle.affine_places.specs.contracts.layout.Layout as Layout
 use Rattle.affine_places.specs.contracts.rooted.Rooted as Rooted
@@ -30,12 +21,6 @@ use Rattle.check_claims.specs.contracts.sources.Sources as Sources
 use Rattle.bounds_check.specs.contracts.claims.Site as Site
 use Rattle.bounds_check.specs.contracts.listing.Listing as Listing
 use Rattle.bounds_check.proofs.Crosses.{Indices-sync, Proc-sync, Unit-sync}
-
-module _ (K V S T : RattleType) (e : eq.Ghosts K.Denot) (h : hash.Ghosts K.Denot)
-    (b : builder.Ghosts S.Denot T.Denot) (w : hasher.Ghosts T.Denot) where
-  IndexMap-sync : IsSync K → IsSync V → IsSync S
-      → IsSync (IndexMap.the_field K V S Global.the_row T e h b w ghosts).row
-  IndexMap-sync yk yv ys = map.the_sync K V S Global.the_row T e h b w ghosts yk yv ys std.sync
 
 module _ (a : NamedLft) where
   Extents-sync : IsSync (Extents.the_field a).row
@@ -54,7 +39,7 @@ module _ (a : NamedLft) where
   Roots-field_sync : IsSync (Roots.the_field a).row
   Roots-field_sync =
       let x = Rooted-sync in
-      struct_sync (shape (Roots.the_type a)) (search (IndexMap-sync, sendable) depth 20, tt)
+      struct_sync (shape (Roots.the_type a)) (search (BTreeMap-sync, sendable) depth 20, tt)
 
   Roots-sync : IsSync (Roots.the_row a)
   Roots-sync = as_row_sync (Roots.the_field a) Roots-field_sync
@@ -62,7 +47,7 @@ module _ (a : NamedLft) where
   -- ---- the words and the extents of a procedure
   Names-field_sync : IsSync (Names.the_field a).row
   Names-field_sync =
-      struct_sync (shape (Names.the_type a)) (search (IndexMap-sync, sendable) depth 20, tt)
+      struct_sync (shape (Names.the_type a)) (search (BTreeMap-sync, sendable) depth 20, tt)
 
   Names-sync : IsSync (Names.the_row a)
   Names-sync = as_row_sync (Names.the_field a) Names-field_sync
@@ -79,7 +64,7 @@ module _ (a : NamedLft) where
   Claimed-field_sync : IsSync Claimed.the_field.row
   Claimed-field_sync =
       let i = Indices-sync in
-      struct_sync (shape Claimed.the_type) (search (IndexMap-sync, sendable) depth 20, tt)
+      struct_sync (shape Claimed.the_type) (search (BTreeMap-sync, sendable) depth 20, tt)
 
   Claimed-sync : IsSync Claimed.the_row
   Claimed-sync = as_row_sync Claimed.the_field Claimed-field_sync

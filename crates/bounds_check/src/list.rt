@@ -69,12 +69,12 @@ pub(crate) fn obligations_of_claims(
     Ok(out.into_items())
 }
 
-/// How many claims a chunk has, but for the last one: a sixteenth of them, and at least 1,024,
-/// so that there are at most 16 chunks.
+/// How many claims a chunk has, but for the last one: a sixteenth of them, and at least 16,384,
+/// so that there are at most 16 chunks, and few lists are worth a thread.
 fn chunk_size(claims: usize) -> usize
-    ensures { result ≡ max 1024 (div_ceil claims 16) }
+    ensures { result ≡ max 16384 (div_ceil claims 16) }
 {
-    claims.div_ceil(16).max(1024)
+    claims.div_ceil(16).max(16_384)
 }
 
 /// The lists of chunks, one after the other. An error where one was refused, or where all together

@@ -120,7 +120,11 @@ module _ (w : Words) where
   given_claims kind a = []
 
   abbrev pub argument_size : Param → Argument → List Claim
-  argument_size p a = elim p.kind [ ControlParam kind ↦ given_claims kind a | TensorParam cell dims memory ↦ [] | WindowParam cell dims memory ↦ [] ]
+  argument_size p a = elim p.kind [
+    | ControlParam kind ↦ given_claims kind a
+    | TensorParam cell dims memory ↦ []
+    | WindowParam cell dims memory ↦ []
+  ]
 
   -- of what is passed
   abbrev pub argument_extents : Extents → Argument → List Control

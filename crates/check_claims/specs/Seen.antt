@@ -1,8 +1,9 @@
 -- What tables tell: of each name its extents, and of each procedure what it writes or reduces.
-use Rattle.std.specs.Prelude.{ℕ, Bool, [], Some, None, nat_eq}
+use Rattle.std.specs.Prelude.{ℕ, Bool, [], Some, None}
+use Rattle.std.specs.BTreeMap.{get}
+use Rattle.std.specs.Ordering.{nat_cmp}
 use Rattle.std.specs.Coded.{Coded-set, coded_bool}
 use mathlib.Core.HLevel.{→_set}
-use Rattle.indexmap.specs.IndexMap.{get}
 use Rattle.exo_meaning.specs.Modes.{modes_at}
 use Rattle.exo_modes.specs.Marks.{writing}
 use Rattle.exo_modes.specs.Seen.{table_says}
@@ -11,7 +12,7 @@ use Rattle.check_claims.specs.Extents as plain
 use Rattle.check_claims.specs.declared.extents.Extents.{Extents}
 
 abbrev pub extents_in : Extents → plain.Extents
-extents_in e x = elim (get nat_eq e.table x) [ None ↦ [] | Some dims ↦ dims ]
+extents_in e x = elim (get nat_cmp e.table x) [ None ↦ [] | Some dims ↦ dims ]
 
 -- of the procedure of each number
 abbrev pub writes_in : ModeTable → ℕ → ℕ → Bool

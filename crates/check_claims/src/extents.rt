@@ -11,8 +11,8 @@ ghost use Rattle.check_claims.specs.Extents.{extents_of};
 ghost use Rattle.check_claims.specs.Seen.{extents_in};
 
 use exo_tree::{Block, Coord, Ctrl, Id, Indices, ParamKind, Params, Proc, Stmt};
-use indexmap::IndexMap;
 use std::alloc::{AllocError, Global};
+use std::collections::BTreeMap;
 
 /// The dimensions of a parameter; a control value has none.
 pub(crate) fn dims_of(kind: &ParamKind) -> &[Ctrl]
@@ -64,7 +64,7 @@ fn copied(alloc: Global, dims: &[Ctrl]) -> Result<Indices, AllocError>
 /// For each name of a procedure that stands for a buffer or a view, its extents from the outermost dimension on.
 #[derive(Drop)]
 pub struct Extents {
-    pub(crate) table: IndexMap<u32, Indices>,
+    pub(crate) table: BTreeMap<u32, Indices>,
 }
 
 impl Extents {
@@ -72,7 +72,7 @@ impl Extents {
         ensures { extents_in result ≡ no_extents }
     {
         Extents {
-            table: IndexMap::new(alloc),
+            table: BTreeMap::new(alloc),
         }
     }
 

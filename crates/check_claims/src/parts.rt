@@ -69,8 +69,8 @@ impl Window {
 
     /// Whether no place that comes changes anything any more.
     fn is_past(&self) -> bool
-        ensures { result ≡ true
-            → (os : List plain.Placed) (is : List Place) → with_places (os, self.now) is ≡ (os, self.now) }
+        ensures { result ≡ true → (os : List plain.Placed) (is : List Place)
+            → with_places (os, self.now) is ≡ (os, self.now) }
     {
         if self.skip > 0 {
             return false;
@@ -298,6 +298,9 @@ fn put_places<'u>(
     )
 }
 
+/// For how many claims there is room at first: a small procedure has no more.
+const COMMON: usize = 3;
+
 /// The claims of so many places of a procedure of the unit, behind so many others.
 fn part_of<'u>(
     alloc: Global,
@@ -321,7 +324,7 @@ fn part_of<'u>(
     ensures more { IfOk result (λ part. part.more
         ≡ has_more (program unit.now) (procedure p.now) skip count) }
 {
-    let mut claims = Vec::new(alloc);
+    let mut claims = Vec::with_capacity(alloc, COMMON)?;
     let mut window = Window {
         skip,
         left: count,

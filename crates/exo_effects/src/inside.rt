@@ -17,10 +17,10 @@ use text_show::Words;
 
 /// The unit of a piece, the modes of its procedures, and the words of the piece's procedure.
 #[derive(Drop)]
-pub(crate) struct Site<'s> {
+pub(crate) struct Site<'s, 'u> {
     pub(crate) unit: &'s Unit,
     pub(crate) modes: &'s ModeTable,
-    pub(crate) words: &'s Words<'s>,
+    pub(crate) words: &'s Words<'u>,
 }
 
 /// What the names of a statement stand for, and the loops and branches of the piece around it.

@@ -62,7 +62,7 @@ fn whole_argument<'a>(
 /// None where there is no such argument, or where it is no buffer.
 pub fn argument<'a>(
     alloc: Global,
-    unit: &Unit,
+    unit: &'a Unit,
     p: &'a Proc,
     path: &Path,
     k: u32,

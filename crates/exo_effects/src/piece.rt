@@ -149,7 +149,7 @@ fn accesses_at<'a>(
 /// it is written. There are none where the statements are not there.
 pub fn accesses<'a>(
     alloc: Global,
-    unit: &Unit,
+    unit: &'a Unit,
     modes: &ModeTable,
     p: &'a Proc,
     path: &Path,

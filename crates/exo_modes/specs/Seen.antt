@@ -1,6 +1,7 @@
 -- What the values of this crate say.
-use Rattle.std.specs.Prelude.{ℕ, Bool, false, List, map, Some, None, nat_eq}
-use Rattle.indexmap.specs.IndexMap.{get}
+use Rattle.std.specs.Prelude.{ℕ, Bool, false, List, map, Some, None}
+use Rattle.std.specs.Ordering.{nat_cmp}
+use Rattle.std.specs.BTreeMap.{get}
 use Rattle.exo_meaning.specs.Modes as meaning
 use Rattle.exo_meaning.specs.Modes.{Mode, picked}
 use Rattle.exo_modes.specs.Marks.{writing}
@@ -12,7 +13,7 @@ abbrev pub says : Modes → Mode → Bool
 says s m = picked m s.read s.write s.reduce
 
 abbrev pub row_says : Row → meaning.Modes
-row_says r m x = elim (get nat_eq r.table x) [ None ↦ false | Some s ↦ says s m ]
+row_says r m x = elim (get nat_cmp r.table x) [ None ↦ false | Some s ↦ says s m ]
 
 abbrev pub rows_say : List Row → List meaning.Modes
 rows_say rows = map row_says rows

@@ -5,13 +5,13 @@ ghost use Rattle.exo_modes.specs.Marks.{together, used};
 ghost use Rattle.exo_modes.specs.Seen.{says, row_says, row_writes};
 
 use crate::mode::Modes;
-use indexmap::IndexMap;
 use std::alloc::{AllocError, Global};
+use std::collections::BTreeMap;
 
 /// How each buffer is touched, by its id; one that is not in the table is not touched.
 #[derive(Drop)]
 pub struct Row {
-    table: IndexMap<u32, Modes>,
+    table: BTreeMap<u32, Modes>,
 }
 
 impl Row {
@@ -19,7 +19,7 @@ impl Row {
         ensures { row_says result ≡ no_modes }
     {
         Row {
-            table: IndexMap::new(alloc),
+            table: BTreeMap::new(alloc),
         }
     }
 

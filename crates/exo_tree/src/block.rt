@@ -44,7 +44,8 @@ pub struct Block {
     held: Held,
 }
 
-/// The list of a block: its own, or one that other blocks have too and that is copied before it grows.
+/// The list of a block: its own, or one that other blocks have too and that is copied
+/// before it grows.
 #[cycle(tree)]
 #[derive(Drop)]
 enum Held {
@@ -85,7 +86,8 @@ impl Held {
         }
     }
 
-    /// Puts a statement last, in a list of the block's own. After want of memory the list is unchanged.
+    /// Puts a statement last, in a list of the block's own. After want of memory the list is
+    /// unchanged.
     fn push(&mut self, s: Arc<Stmt>) -> Result<(), AllocError>
         ensures pushed { OnOk result (held_statements self.new
             ≡ held_statements self.old ++ statement s.value ∷ []) }
@@ -178,14 +180,29 @@ impl Block {
         self.held.push(s.clone()?)
     }
 
-    /// Appends the statements of `part` from `from` up to `to`, which both blocks have from then on.
+    /// Appends the statements of `part` from `from` up to `to`, which both blocks have from then
+    /// on; to an empty block the whole of `part` as the list that both share.
+    #[tactic(auto, using(crate::proofs::Trees::whole_range))]
     pub fn append_part(
         &mut self,
-        _alloc: Global,
+        alloc: Global,
         part: &Block,
         from: usize,
         to: usize,
     ) -> Result<(), AllocError>
+        requires ordered { from ≤ to }
+        requires within { to ≤ length part.now }
+        ensures { OnOk result (self.new ≡ self.old ++ slice_range part.now from to) }
+    {
+        if self.len() == 0 && from == 0 && to == part.len() {
+            *self = part.duplicate(alloc)?;
+            return Ok(());
+        }
+        self.append_each(part, from, to)
+    }
+
+    /// The same, statement by statement.
+    fn append_each(&mut self, part: &Block, from: usize, to: usize) -> Result<(), AllocError>
         requires ordered { from ≤ to }
         requires within { to ≤ length part.now }
         ensures { OnOk result (self.new ≡ self.old ++ slice_range part.now from to) }

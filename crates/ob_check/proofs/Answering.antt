@@ -1,9 +1,9 @@
 -- What verdicts come to, in order.
-use Rattle.std.proofs.Common.{◌≡◌, ℕ, suc, ◌+◌, ◌<◌, true, false, cond, not, List, [], ◌∷◌, ◌++◌, map, drop, take, length, get_or, Some, None, All, refl, sym, ap, ◌∙◌, subst, arith, append_assoc, length-append}
+use Rattle.std.proofs.Common.{◌≡◌, ℕ, suc, ◌+◌, ◌<◌, true, false, cond, not, List, [], ◌∷◌, ◌++◌, map, drop, take, length, get_or, Some, None, All, refl, sym, ap, ◌∙◌, subst, arith, add-one, append_assoc, length-append}
 use Rattle.std.specs.Prelude.{slice_get}
 use Rattle.std.specs.List.{AllByRecursion, position_or_len}
-use Rattle.std.proofs.lemmas.List.{drop-drop, take-append-drop, length-take-le}
-use Rattle.std.proofs.Math.Seq.{take-append_seam}
+use Rattle.std.proofs.lemmas.List.{drop-drop, map-append, take-append-drop, length-take-le}
+use Rattle.std.proofs.Math.Seq.{take-append_seam, take-suc}
 use Rattle.std.proofs.lemmas.List.Elements.{All-map, All-weaker, All-push, recursion_from_All}
 use Rattle.affine_forms.specs.Affine.{HasNoIntegerPoint}
 use Rattle.affine_prover.specs.declared.answer.Verdict.{Verdict}
@@ -127,3 +127,13 @@ more_shown fs i f v h e shown true_of kept =
   where
     front : (gs : List Found) (f : Found) (rest : List Found) (n : ℕ) → length gs + 1 ≡ n → take n (gs ++ f ∷ rest) ≡ gs ++ f ∷ []
     front gs f rest n e = ap (λ k. take k (gs ++ f ∷ rest)) (sym e ∙ sym (length-append gs (f ∷ []))) ∙ ap (take (length (gs ++ f ∷ []))) (sym (append_assoc gs (f ∷ []) rest)) ∙ take-append_seam (gs ++ f ∷ []) rest
+
+-- one more with its verdict
+pub one_known : (fs : List Found) (i : ℕ) (f : Found) (ks ls : List Known) (k : Known) → i < length fs → f ≡ get_or fs i f → ls ≡ ks ++ k ∷ [] → system_known k ≡ system_found f → map system_known ks ≡ map system_found (take i fs) → map system_known ls ≡ map system_found (take (i + 1) fs)
+one_known fs i f ks ls k h e is same so_far =
+    ap (map system_known) is
+    ∙ map-append system_known ks (k ∷ [])
+    ∙ ap (λ ss. map system_known ks ++ ss ∷ []) same
+    ∙ ap (λ ss. ss ++ system_found f ∷ []) so_far
+    ∙ sym (map-append system_found (take i fs) (f ∷ []))
+    ∙ sym (ap (map system_found) (ap (λ n. take n fs) (add-one i) ∙ take-suc fs i f h ∙ ap (λ g. take i fs ++ g ∷ []) (sym e)))

@@ -15,3 +15,4 @@ mod Chunks
 mod Promoting
 mod Settling
 mod Examples
+mod Waiting

@@ -1,5 +1,5 @@
 -- What is known of a list of obligations, with one part more.
-use Rattle.std.proofs.Common.{◌≡◌, ℕ, suc, ◌+◌, Bool, true, false, cond, not, List, [], ◌∷◌, ◌++◌, map, length, Option, Some, None, All, refl, sym, ap, ◌∙◌, arith, length-append}
+use Rattle.std.proofs.Common.{◌≡◌, ℕ, suc, ◌+◌, Bool, true, false, cond, not, List, [], ◌∷◌, ◌++◌, map, length, Option, Some, None, All, refl, sym, ap, ◌∙◌, subst, arith, length-append}
 use Rattle.std.specs.Prelude.{fold, filter, slice_get}
 use Rattle.std.specs.List.{position_or_len}
 use Rattle.std.proofs.lemmas.List.{map-append, length-map}
@@ -14,10 +14,11 @@ use Rattle.ob_check.specs.declared.answer.Answer.{Answer}
 use Rattle.ob_check.specs.declared.answer.Answer.TheVariants.{AllShown, First}
 use Rattle.ob_check.specs.declared.cache.Cache.{Cache}
 use Rattle.ob_check.specs.declared.parts.Parts.{Parts}
+use Rattle.ob_check.specs.declared.pending.Pending.{Pending}
 use Rattle.ob_check.specs.Systems.{systems_of}
 use Rattle.ob_check.specs.Held.{held}
-use Rattle.ob_check.specs.Parts.{AreTaken}
-use Rattle.ob_check.specs.Entries.{asked, is_missing, kept}
+use Rattle.ob_check.specs.Parts.{AreTaken, ArePending}
+use Rattle.ob_check.specs.Entries.{asked, is_missing}
 use Rattle.ob_check.specs.Answers.{is_refused, answer_at, answer_of, joined_answer, ShownHasNoPoint}
 use Rattle.ob_check.proofs.Holding.{is_missing-asked}
 
@@ -31,13 +32,12 @@ filter-same : {X : Type 0} (p q : X → Bool) → ((x : X) → p x ≡ q x) → 
 filter-same p q same [] = refl
 filter-same p q same (x ∷ xs) = ap (λ b. cond b (x ∷ filter p xs) (filter p xs)) (same x) ∙ ap (λ r. cond (q x) (x ∷ r) r) (filter-same p q same xs)
 
-pub more_pending : (es before after : List (Constraints × Verdict)) (ss ts : List Constraints) → before ≡ fold kept [] (filter (is_missing es) ss) → after ≡ fold kept before (filter (is_missing (fold asked es ss)) ts) → after ≡ fold kept [] (filter (is_missing es) (ss ++ ts))
-more_pending es before after ss ts was is =
-    is
-    ∙ ap (λ m. fold kept m (filter (is_missing (fold asked es ss)) ts)) was
-    ∙ ap (fold kept (fold kept [] (filter (is_missing es) ss))) (filter-same (is_missing (fold asked es ss)) (is_missing es) (is_missing-all_asked ss es) ts)
-    ∙ sym (fold-append kept [] (filter (is_missing es) ss) (filter (is_missing es) ts))
-    ∙ ap (fold kept []) (sym (filter-append (is_missing es) ss ts))
+pub more_pending : (es : List (Constraints × Verdict)) (ss ts : List Constraints) (p q : Pending) → ArePending (filter (is_missing es) ss) p → ((ms : List Constraints) → ArePending ms p → ArePending (ms ++ filter (is_missing (fold asked es ss)) ts) q) → ArePending (filter (is_missing es) (ss ++ ts)) q
+more_pending es ss ts p q was put =
+    let same = filter-same (is_missing (fold asked es ss)) (is_missing es) (is_missing-all_asked ss es) ts in
+    subst (λ ms. ArePending ms q)
+    (ap (λ ms. filter (is_missing es) ss ++ ms) same ∙ sym (filter-append (is_missing es) ss ts))
+    (put (filter (is_missing es) ss) was)
 
 pub more_asked : (es before after : List (Constraints × Verdict)) (ss ts : List Constraints) → before ≡ fold asked es ss → after ≡ fold asked before ts → after ≡ fold asked es (ss ++ ts)
 more_asked es before after ss ts was is = is ∙ ap (λ m. fold asked m ts) was ∙ sym (fold-append asked es ss ts)
@@ -107,10 +107,10 @@ more_shown ss ts n a b c first second is all = by a b first second (sym is ∙ a
 pub one_more : (part : List Obligation) (before after n : ℕ) → n ≡ length part → after ≡ before + n → after ≡ before + length (systems_of part)
 one_more part before after n h is = is ∙ ap (λ k. before + k) (h ∙ sym (length-map part (λ o. plain_system o.system)))
 
-pub taken : (es : List (Constraints × Verdict)) (ss ts : List Constraints) (c d : Cache) (p q : Parts) (a : Answer) → AreTaken es ss c p → held d ≡ fold asked (held c) ts → held q.pending ≡ fold kept (held p.pending) (filter (is_missing (held c)) ts) → q.count ≡ p.count + length ts → q.answer ≡ joined_answer p.count p.answer a → a ≡ answer_of (map elimination ts) → ShownHasNoPoint ts a → AreTaken es (ss ++ ts) d q
+pub taken : (es : List (Constraints × Verdict)) (ss ts : List Constraints) (c d : Cache) (p q : Parts) (a : Answer) → AreTaken es ss c p → held d ≡ fold asked (held c) ts → ((ms : List Constraints) → ArePending ms p.pending → ArePending (ms ++ filter (is_missing (held c)) ts) q.pending) → q.count ≡ p.count + length ts → q.answer ≡ joined_answer p.count p.answer a → a ≡ answer_of (map elimination ts) → ShownHasNoPoint ts a → AreTaken es (ss ++ ts) d q
 taken es ss ts c d p q a h looked pended counted joined exact shown = record {
   looked_up = more_asked es (held c) (held d) ss ts h.looked_up looked;
-  pending = more_pending es (held p.pending) (held q.pending) ss ts h.pending (pended ∙ ap (λ m. fold kept (held p.pending) (filter (is_missing m) ts)) h.looked_up);
+  pending = more_pending es ss ts p.pending q.pending h.pending (λ ms was. subst (λ m. ArePending (ms ++ filter (is_missing m) ts) q.pending) h.looked_up (pended ms was));
   count = counted ∙ ap (λ k. k + length ts) h.count ∙ sym (length-append ss ts);
   exact = more_exact elimination ss ts p.count p.answer a q.answer h.count h.exact exact joined;
   shown = more_shown ss ts p.count p.answer a q.answer h.shown shown joined;

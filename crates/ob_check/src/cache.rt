@@ -61,7 +61,20 @@ impl Cache {
         ensures missing { was_missing result ≡ is_missing (held self.old) (plain_system system.now) }
         ensures asked { held self.new ≡ asked (held self.old) (plain_system system.now) }
     {
+        if self.verdicts.is_empty() {
+            return Found::Missing(system);
+        }
         match self.verdicts.get(system).copied() {
+            Some(verdict) => Found::Kept(Known { system, verdict }),
+            None => Found::Missing(system),
+        }
+    }
+
+    /// The same, but that the system does not come first.
+    pub(crate) fn peek<'a>(&self, system: &'a System) -> Found<'a>
+        ensures { system_found result ≡ plain_system system.now }
+    {
+        match self.verdicts.peek(system).copied() {
             Some(verdict) => Found::Kept(Known { system, verdict }),
             None => Found::Missing(system),
         }

@@ -38,6 +38,23 @@ pub(crate) fn looked_up<'a>(
     Ok(all)
 }
 
+/// What a cache says of systems, in order; none of them comes first by that.
+pub(crate) fn peeked<'a>(
+    alloc: Global,
+    systems: &[&'a System],
+    cache: &Cache,
+) -> Result<Vec<Found<'a>>, AllocError>
+    ensures { IfOk result (λ v. map system_found v.items
+        ≡ map (λ s. plain_system s.now) systems.now) }
+{
+    let mut all = Vec::new(alloc);
+    for system in systems {
+        let found = cache.peek(*system);
+        all.push(found)?;
+    }
+    Ok(all)
+}
+
 /// The systems that the cache does not know, in order.
 pub(crate) fn missing<'a>(alloc: Global, found: &[Found<'a>]) -> Result<Vec<&'a System>, AllocError>
     ensures { IfOk result (λ v. map (λ s. plain_system s.now) v.items ≡ missing_of found.now) }

@@ -12,6 +12,7 @@ mod known;
 pub mod laws;
 mod obligations;
 mod parts;
+mod pending;
 
 pub use answer::Answer;
 pub use cache::Cache;

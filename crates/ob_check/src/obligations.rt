@@ -16,15 +16,23 @@ use affine_prover::Verdict;
 use std::alloc::{AllocError, Global};
 use std::thread::Threads;
 
-/// The verdict on a system that was looked up, where the decided ones go on at `next`.
+/// A system that was looked up with its verdict, where the decided ones go on at `next`.
+fn known_of<'a>(found: &Found<'a>, decided: &[Known<'a>], next: usize) -> Known<'a>
+    requires { ComesFirst found.now (drop next decided.now) }
+    ensures { system_known result ≡ system_found found.now }
+{
+    match found {
+        Found::Kept(known) => *known,
+        Found::Missing(_) => decided[next],
+    }
+}
+
+/// The verdict on it.
 fn verdict_of(found: &Found<'_>, decided: &[Known<'_>], next: usize) -> Verdict
     requires { ComesFirst found.now (drop next decided.now) }
     ensures { IsTrueOf (system_found found.now) result }
 {
-    match found {
-        Found::Kept(known) => known.verdict,
-        Found::Missing(_) => decided[next].verdict,
-    }
+    known_of(found, decided, next).verdict
 }
 
 /// Whether a verdict leaves it open that the system has no integer point.
@@ -64,6 +72,25 @@ pub(crate) fn answer(found: &[Found<'_>], decided: &[Known<'_>]) -> Answer
         next += own_count(f);
     }
     Answer::AllShown
+}
+
+/// What was looked up, each with its verdict, where the missing systems are decided in order.
+pub(crate) fn all_known<'a>(
+    alloc: Global,
+    found: &[Found<'a>],
+    decided: &[Known<'a>],
+) -> Result<Vec<Known<'a>>, AllocError>
+    requires { map system_known decided.now ≡ missing_of found.now }
+    ensures { IfOk result (λ v. map system_known v.items ≡ map system_found found.now) }
+{
+    let mut all = Vec::new(alloc);
+    let mut next = 0;
+    for one in found {
+        let known = known_of(one, decided, next);
+        all.push(known)?;
+        next += own_count(one);
+    }
+    Ok(all)
 }
 
 /// A cache that keeps nothing yet.

@@ -8,9 +8,10 @@ ghost use Rattle.ob_check.specs.Answers.{answer_of, joined_answer, ShownHasNoPoi
 
 use crate::answer::Answer;
 use crate::cache::Cache;
-use crate::found::looked_up;
+use crate::found::{looked_up, missing};
 use crate::gate::Gate;
-use crate::obligations::{answer, decide_missing};
+use crate::obligations::answer;
+use crate::pending::Pending;
 use affine_systems::Obligation;
 use std::alloc::{AllocError, Global};
 use std::thread::Threads;
@@ -41,11 +42,11 @@ fn joined(count: usize, first: Answer, second: Answer) -> Result<Answer, AllocEr
 /// What is known of a list of obligations that comes in parts: each part is taken, and can be
 /// dropped then.
 ///
-/// The verdicts that the cache has to keep are kept here until the end, since it keeps none before
-/// all systems of the list are looked up. There are at most as many of them as it has room for.
+/// The verdicts that the cache has to keep wait here until the end, since it keeps none before all
+/// systems of the list are looked up. There are at most as many of them as it has room for.
 #[derive(Drop)]
 pub struct Parts {
-    pending: Cache,
+    pending: Pending,
     count: usize,
     answer: Answer,
 }
@@ -63,15 +64,14 @@ impl Parts {
     ghost use Rattle.ob_check.specs.Parts.{AreTaken};
 
     /// No part is taken yet.
-    pub fn new(alloc: Global) -> Result<Parts, AllocError>
-        ensures { IfOk result (λ p. (c : Cache) → AreTaken (held c) [] c p) }
+    pub fn new() -> Parts
+        ensures { (c : Cache) → AreTaken (held c) [] c result }
     {
-        let pending = Cache::empty(alloc)?;
-        Ok(Parts {
-            pending,
+        Parts {
+            pending: Pending::new(),
             count: 0,
             answer: Answer::AllShown,
-        })
+        }
     }
 
     /// Counts in a part with so many obligations, by the answer on it.
@@ -89,7 +89,7 @@ impl Parts {
     /// Takes the next part, and answers on it alone, with the index in it.
     ///
     /// Each system of the part is looked up in the cache, in order, and those that it does not know
-    /// are decided, in chunks as `discharge` says.
+    /// and on which no verdict waits are decided, in chunks as `discharge` says.
     pub fn take<R: Threads + Sync, G: Gate>(
         &mut self,
         rt: &R,
@@ -104,8 +104,9 @@ impl Parts {
             → OnOk result (AreTaken es (ss ++ systems_of part.now) cache.new self.new) }
     {
         let found = looked_up(alloc, part, cache)?;
-        let decided = decide_missing(rt, alloc, &found, gate)?;
-        self.pending.keep_all(alloc, &decided)?;
+        let missing = missing(alloc, &found)?;
+        let decided = self.pending.decide(rt, alloc, &missing, gate)?;
+        self.pending.put(alloc, &decided)?;
         let answer = answer(&found, &decided);
         self.count_in(part.len(), answer)?;
         Ok(answer)
@@ -129,7 +130,7 @@ impl Parts {
             count: _,
             answer,
         } = self;
-        cache.put_all(pending)?;
+        pending.end(cache)?;
         Ok(answer)
     }
 }
@@ -153,7 +154,7 @@ pub fn discharge<R: Threads + Sync, G: Gate>(
     ensures shown { IfOk result (ShownHasNoPoint (systems_of obs.now)) }
     ensures held { OnOk result (held cache.new ≡ discharged (held cache.old) (systems_of obs.now)) }
 {
-    let mut parts = Parts::new(alloc)?;
+    let mut parts = Parts::new();
     parts.take(rt, alloc, obs, cache, gate)?;
     parts.end(cache)
 }

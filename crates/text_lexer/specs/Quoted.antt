@@ -37,5 +37,8 @@ abbrev mutual
 
 -- a part of a string, at the front of its bytes
 abbrev pub IsPart : ℕ → List ℕ → Quoted → Part → Type 0
-IsPart quote bytes q (Byte c n) = (c < 0x80) × (1 ≤ n) × (n ≤ length bytes) × (q ≡ behind (c ∷ []) n (quoted quote (drop n bytes)))
+IsPart quote bytes q (Byte c n) = (c < 0x80)
+    × (1 ≤ n)
+    × (n ≤ length bytes)
+    × (q ≡ behind (c ∷ []) n (quoted quote (drop n bytes)))
 IsPart quote bytes q (End ending n) = (n ≤ length bytes) × (q ≡ ends n ending)

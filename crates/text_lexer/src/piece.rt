@@ -1,6 +1,7 @@
 // The token that begins at a byte.
 
-ghost use Rattle.std.specs.Prelude.{◌≡◌, ◌+◌, ◌≤◌, ◌<◌, length, IfOk, EachIndex, slice_index, take_while};
+ghost use Rattle.std.specs.Prelude.{◌≡◌, ◌+◌, ◌≤◌, ◌<◌, length, IfOk, EachIndex, slice_index};
+ghost use Rattle.std.specs.Prelude.{bytes_eq, take_while};
 ghost use Rattle.std.specs.Char.{is_ascii_digit};
 ghost use Rattle.text_lexer.specs.Quoted.{quoted};
 ghost use Rattle.text_lexer.specs.Piece.{word_of, decorator_of, sign_of, sign_with_equals, literal};
@@ -20,45 +21,52 @@ pub struct Piece {
     pub width: usize,
 }
 
+/// Whether two texts are the same. Most differ in length, which is tested first.
+fn is_same(text: &[u8], word: &[u8]) -> bool
+    ensures { result ≡ bytes_eq text.now word.now }
+{
+    text.len() == word.len() && text == word
+}
+
 /// The word that is written so.
 fn word_of(text: &[u8]) -> Option<Word>
     ensures { result ≡ word_of text.now }
 {
-    if text == b"and".as_slice() {
+    if is_same(text, b"and") {
         Some(Word::And)
-    } else if text == b"assert".as_slice() {
+    } else if is_same(text, b"assert") {
         Some(Word::Assert)
-    } else if text == b"class".as_slice() {
+    } else if is_same(text, b"class") {
         Some(Word::Class)
-    } else if text == b"def".as_slice() {
+    } else if is_same(text, b"def") {
         Some(Word::Def)
-    } else if text == b"else".as_slice() {
+    } else if is_same(text, b"else") {
         Some(Word::Else)
-    } else if text == b"for".as_slice() {
+    } else if is_same(text, b"for") {
         Some(Word::For)
-    } else if text == b"from".as_slice() {
+    } else if is_same(text, b"from") {
         Some(Word::From)
-    } else if text == b"if".as_slice() {
+    } else if is_same(text, b"if") {
         Some(Word::If)
-    } else if text == b"import".as_slice() {
+    } else if is_same(text, b"import") {
         Some(Word::Import)
-    } else if text == b"in".as_slice() {
+    } else if is_same(text, b"in") {
         Some(Word::In)
-    } else if text == b"or".as_slice() {
+    } else if is_same(text, b"or") {
         Some(Word::Or)
-    } else if text == b"pass".as_slice() {
+    } else if is_same(text, b"pass") {
         Some(Word::Pass)
-    } else if text == b"relu".as_slice() {
+    } else if is_same(text, b"relu") {
         Some(Word::Relu)
-    } else if text == b"select".as_slice() {
+    } else if is_same(text, b"select") {
         Some(Word::Select)
-    } else if text == b"seq".as_slice() {
+    } else if is_same(text, b"seq") {
         Some(Word::Seq)
-    } else if text == b"stride".as_slice() {
+    } else if is_same(text, b"stride") {
         Some(Word::Stride)
-    } else if text == b"True".as_slice() {
+    } else if is_same(text, b"True") {
         Some(Word::True)
-    } else if text == b"False".as_slice() {
+    } else if is_same(text, b"False") {
         Some(Word::False)
     } else {
         None
@@ -69,13 +77,13 @@ fn word_of(text: &[u8]) -> Option<Word>
 fn decorator_of(text: &[u8]) -> Option<Decorator>
     ensures { result ≡ decorator_of text.now }
 {
-    if text == b"proc".as_slice() {
+    if is_same(text, b"proc") {
         Some(Decorator::Procedure)
-    } else if text == b"instr".as_slice() {
+    } else if is_same(text, b"instr") {
         Some(Decorator::Instruction)
-    } else if text == b"config".as_slice() {
+    } else if is_same(text, b"config") {
         Some(Decorator::Configuration)
-    } else if text == b"memory".as_slice() {
+    } else if is_same(text, b"memory") {
         Some(Decorator::MemoryClass)
     } else {
         None

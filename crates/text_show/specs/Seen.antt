@@ -1,6 +1,7 @@
 -- The words that a table of names and a unit give.
-use Rattle.std.specs.Prelude.{ℕ, Some, None, nat_eq}
-use Rattle.indexmap.specs.IndexMap.{get}
+use Rattle.std.specs.Prelude.{ℕ, Some, None}
+use Rattle.std.specs.BTreeMap.{get}
+use Rattle.std.specs.Ordering.{nat_cmp}
 use Rattle.exo_tree.specs.PlainUnit.{program}
 use Rattle.text_show.specs.Layout.{Text}
 use Rattle.text_show.specs.Names.{unknown}
@@ -9,7 +10,7 @@ use Rattle.text_show.specs.declared.names.Names.{Names}
 use Rattle.text_show.specs.declared.words.Words.{Words}
 
 abbrev pub names_in : Names → ℕ → Text
-names_in n x = elim (get nat_eq n.table x) [ None ↦ unknown x | Some t ↦ t.now ]
+names_in n x = elim (get nat_cmp n.table x) [ None ↦ unknown x | Some t ↦ t.now ]
 
 abbrev pub words_in : Words → words.Words
 words_in w = words.words_with (program w.unit.now) (names_in w.names)

@@ -9,13 +9,13 @@ ghost use Rattle.text_show.specs.Words.{or_unknown};
 ghost use Rattle.text_show.specs.Seen.{names_in};
 
 use exo_tree::{Binder, Block, Id, Params, Proc, Stmt};
-use indexmap::IndexMap;
 use std::alloc::{AllocError, Global};
+use std::collections::BTreeMap;
 
 /// The name that each id has.
 #[derive(Drop)]
 pub(crate) struct Names<'a> {
-    table: IndexMap<u32, &'a str>,
+    table: BTreeMap<u32, &'a str>,
 }
 
 impl<'a> Names<'a> {
@@ -23,7 +23,7 @@ impl<'a> Names<'a> {
         ensures { names_in result ≡ unknown }
     {
         Names {
-            table: IndexMap::new(alloc),
+            table: BTreeMap::new(alloc),
         }
     }
 

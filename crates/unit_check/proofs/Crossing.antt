@@ -11,15 +11,9 @@ use denote.Struct.Tuple.{TupleAt}
 use mir.Syntax.{Lifetime, Sym}
 use Rattle.std.proofs.Common.{[], ◌∷◌}
 use Rattle.std.proofs.Crossing.{Vec-send}
+use Rattle.std.proofs.MapsCrossing.{BTreeMap-send}
 use Rattle.std.proofs.Crossing as std
 use Rattle.std.specs.contracts.alloc.Global as Global
-use Rattle.std.specs.contracts.impls.GlobalAllocator.TheImpl.{ghosts}
-use Rattle.std.specs.declared.cmp.PartialEq as eq
-use Rattle.std.specs.declared.hash.BuildHasher as builder
-use Rattle.std.specs.declared.hash.Hash as hash
-use Rattle.std.specs.declared.hash.Hasher as hasher
-use Rattle.exo_modes.below.indexmap.specs.contracts.map.IndexMap as IndexMap
-use Rattle.exo_modes.below.indexmap.proofs.map.IndexMap.TheSendSync as map
 use Rattle.exo_tree.proofs.number.Id.TheSendSync as id
 use Rattle.exo_tree.proofs.number.ProcId.TheSendSync as proc_id
 use Rattle.exo_modes.proofs.table.ModeTable.TheSendSync as modes
@@ -35,13 +29,6 @@ use Rattle.check_claims.specs.contracts.sources.Sources as Sources
 use Rattle.affine_systems.proofs.amount.Amount.TheSendSync as amount
 use Rattle.bounds_check.proofs.Crosses.{Indices-send, Indices-sync, Proc-sync, Unit-sync}
 use Rattle.bounds_check.specs.contracts.listing.Listing as Listing
-
--- ---- maps
-module _ (K V S T : RattleType) (e : eq.Ghosts K.Denot) (h : hash.Ghosts K.Denot)
-    (b : builder.Ghosts S.Denot T.Denot) (w : hasher.Ghosts T.Denot) where
-  map_send : IsSend K → IsSend V → IsSend S
-      → IsSend (IndexMap.the_field K V S Global.the_row T e h b w ghosts).row
-  map_send k v s = map.the_send K V S Global.the_row T e h b w ghosts k v s std.send std.frees
 
 -- ---- the roots of a procedure's names
 module _ (a : NamedLft) where
@@ -60,14 +47,14 @@ module _ (a : NamedLft) where
   Rooted-send = as_row_send (Rooted.the_field a) Rooted-field_send
 
   Roots-send : IsSend (Roots.the_field a).row
-  Roots-send = let r = Rooted-send in search (map_send, sendable) depth 20
+  Roots-send = let r = Rooted-send in search (BTreeMap-send, sendable) depth 20
 
   -- ---- the words and the extents of a procedure
   Claimed-send : IsSend Claimed.the_field.row
-  Claimed-send = let i = Indices-send in search (map_send, sendable) depth 20
+  Claimed-send = let i = Indices-send in search (BTreeMap-send, sendable) depth 20
 
   Names-send : IsSend (Names.the_field a).row
-  Names-send = search (map_send, sendable) depth 20
+  Names-send = search (BTreeMap-send, sendable) depth 20
 
   Words-send : IsSend (Words.the_field a).row
   Words-send = let u = Unit-sync in let n = Names-send in search sendable depth 20

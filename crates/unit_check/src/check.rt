@@ -171,10 +171,7 @@ fn check_procedure<R: Threads + Sync, G: Gate>(
         Ok(None) => return Ok(0),
         Err(e) => return Err(not_listed(p, e)),
     };
-    let mut showing = match Showing::new(alloc) {
-        Ok(showing) => showing,
-        Err(_) => return Err(out_of_memory(p)),
-    };
+    let mut showing = Showing::new();
     match take_all(rt, alloc, &mut listing, &mut showing, cache, gate) {
         Ok(()) => {}
         Err(e) => return Err(not_listed(p, e)),

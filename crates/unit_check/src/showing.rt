@@ -111,14 +111,13 @@ impl Showing {
     ghost use Rattle.unit_check.specs.Parts.{AreShown};
 
     /// No part came yet.
-    pub(crate) fn new(alloc: Global) -> Result<Showing, AllocError>
-        ensures { IfOk result (λ s. (c : Cache) → AreShown (held c) [] c s) }
+    pub(crate) fn new() -> Showing
+        ensures { (c : Cache) → AreShown (held c) [] c result }
     {
-        let parts = Parts::new(alloc)?;
-        Ok(Showing {
-            parts,
+        Showing {
+            parts: Parts::new(),
             found: Ok(()),
-        })
+        }
     }
 
     /// Takes the next part, unless something is not shown before it.

@@ -15,7 +15,7 @@ returns-clause-claims c =
     let w : Window = record { skip = c.args.skip; left = c.args.count; more = false } in
     ap (λ (s : List Placed × Window). s.0)
     (c.in_ok-put_places.ensures
-    ∙ ap (λ l. with_places (map placed l, w) (places_of u p)) c.new-claims.ensures.items)
+    ∙ ap (λ l. with_places (map placed l, w) (places_of u p)) c.in_ok-claims.ensures.items)
     ∙ window_claims c.args.skip c.args.count false [] (places_of u p)
 
 pub returns-clause-more : goal.returns-clause-more
@@ -25,5 +25,5 @@ returns-clause-more c =
     let w : Window = record { skip = c.args.skip; left = c.args.count; more = false } in
     ap (λ (s : List Placed × Window). s.1.more)
     (c.in_ok-put_places.ensures
-    ∙ ap (λ l. with_places (map placed l, w) (places_of u p)) c.new-claims.ensures.items)
+    ∙ ap (λ l. with_places (map placed l, w) (places_of u p)) c.in_ok-claims.ensures.items)
     ∙ window_more c.args.skip c.args.count false [] (places_of u p)

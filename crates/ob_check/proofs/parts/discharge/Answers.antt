@@ -6,14 +6,14 @@ use Rattle.ob_check.proofs.parts.discharge.Goals as goal
 pub returns-clause-exact : goal.returns-clause-exact
 returns-clause-exact g c =
     let es = held c.args.cache.now in
-    c.end.ensures.exact es (systems_of c.args.obs.now) (c.in_ok-take.ensures.taken es [] (c.in_ok-parts.ensures c.args.cache.now))
+    c.end.ensures.exact es (systems_of c.args.obs.now) (c.in_ok-take.ensures.taken es [] (c.new-parts.ensures c.args.cache.now))
 
 pub returns-clause-shown : goal.returns-clause-shown
 returns-clause-shown g c =
     let es = held c.args.cache.now in
-    c.end.ensures.shown es (systems_of c.args.obs.now) (c.in_ok-take.ensures.taken es [] (c.in_ok-parts.ensures c.args.cache.now))
+    c.end.ensures.shown es (systems_of c.args.obs.now) (c.in_ok-take.ensures.taken es [] (c.new-parts.ensures c.args.cache.now))
 
 pub returns-clause-held : goal.returns-clause-held
 returns-clause-held g c =
     let es = held c.args.cache.now in
-    c.end.ensures.held es (systems_of c.args.obs.now) (c.in_ok-take.ensures.taken es [] (c.in_ok-parts.ensures c.args.cache.now))
+    c.end.ensures.held es (systems_of c.args.obs.now) (c.in_ok-take.ensures.taken es [] (c.new-parts.ensures c.args.cache.now))

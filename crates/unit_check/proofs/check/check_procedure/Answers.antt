@@ -26,7 +26,7 @@ returns-in-Err-take_all-clause-exact g c = λ q at.
     (obligations_of u q) c.not_listed-in-Err-take_all.ensures.fault
     c.not_listed-in-Err-take_all.ensures.memory
     (refused_taking e u q _ l c.take_all.new.listing c.args.cache.now c.take_all.new.cache
-    c.in-Ok.showing c.take_all.new.showing begun c.in-Ok.ensures c.in-Err-take_all.ensures at)
+    c.new-showing.result c.take_all.new.showing begun c.new-showing.ensures c.in-Err-take_all.ensures at)
 
 pub count-requires : goal.count-requires
 count-requires g c =
@@ -35,7 +35,7 @@ count-requires g c =
     let begun = has_begun c.in-Ok-Some.field-0 _ _ l c.in-Ok-Some.field-0-is
     c.in-Ok-Some.ensures in
     (all_taken u (proc_of l) _ l c.take_all.new.listing c.args.cache.now c.take_all.new.cache
-    c.in-Ok.showing c.take_all.new.showing begun c.in-Ok.ensures c.in-Ok-take_all.ensures
+    c.new-showing.result c.take_all.new.showing begun c.new-showing.ensures c.in-Ok.ensures
     (sym begun.found)).listed
 
 pub returns-in-Ok-end-clause-exact : goal.returns-in-Ok-end-clause-exact
@@ -45,8 +45,8 @@ returns-in-Ok-end-clause-exact g c = λ q at.
     let m = c.take_all.new.listing in
     let begun = has_begun c.in-Ok-Some.field-0 _ _ l c.in-Ok-Some.field-0-is
     c.in-Ok-Some.ensures in
-    let all = all_taken u q _ l m c.args.cache.now c.take_all.new.cache c.in-Ok.showing
-    c.take_all.new.showing begun c.in-Ok.ensures c.in-Ok-take_all.ensures at in
+    let all = all_taken u q _ l m c.args.cache.now c.take_all.new.cache c.new-showing.result
+    c.take_all.new.showing begun c.new-showing.ensures c.in-Ok.ensures at in
     answers_ok 0 c.args.p.0 u q (listed_of m) all.done
     (c.in-Ok-end.ensures.exact (held c.args.cache.now) (listed_of m) all.shown)
 
@@ -57,8 +57,8 @@ returns-in-Ok-end-clause-count g c = λ q at.
     let m = c.take_all.new.listing in
     let begun = has_begun c.in-Ok-Some.field-0 _ _ l c.in-Ok-Some.field-0-is
     c.in-Ok-Some.ensures in
-    let all = all_taken u q _ l m c.args.cache.now c.take_all.new.cache c.in-Ok.showing
-    c.take_all.new.showing begun c.in-Ok.ensures c.in-Ok-take_all.ensures at in
+    let all = all_taken u q _ l m c.args.cache.now c.take_all.new.cache c.new-showing.result
+    c.take_all.new.showing begun c.new-showing.ensures c.in-Ok.ensures at in
     c.count.ensures ∙ ap length all.done.owed
 
 pub returns-in-Ok-end-clause-few : goal.returns-in-Ok-end-clause-few
@@ -68,8 +68,8 @@ returns-in-Ok-end-clause-few g c =
     let m = c.take_all.new.listing in
     let begun = has_begun c.in-Ok-Some.field-0 _ _ l c.in-Ok-Some.field-0-is
     c.in-Ok-Some.ensures in
-    let all = all_taken u (proc_of l) _ l m c.args.cache.now c.take_all.new.cache c.in-Ok.showing
-    c.take_all.new.showing begun c.in-Ok.ensures c.in-Ok-take_all.ensures (sym begun.found) in
+    let all = all_taken u (proc_of l) _ l m c.args.cache.now c.take_all.new.cache c.new-showing.result
+    c.take_all.new.showing begun c.new-showing.ensures c.in-Ok.ensures (sym begun.found) in
     let few : length (listed_of m) ≤ 65536 = few_done u (proc_of l) (listed_of m) all.done in
     omega (arith, few, c.count.ensures)
 
@@ -80,8 +80,8 @@ returns-in-Ok-end-clause-shown g c = λ q at.
     let m = c.take_all.new.listing in
     let begun = has_begun c.in-Ok-Some.field-0 _ _ l c.in-Ok-Some.field-0-is
     c.in-Ok-Some.ensures in
-    let all = all_taken u q _ l m c.args.cache.now c.take_all.new.cache c.in-Ok.showing
-    c.take_all.new.showing begun c.in-Ok.ensures c.in-Ok-take_all.ensures at in
+    let all = all_taken u q _ l m c.args.cache.now c.take_all.new.cache c.new-showing.result
+    c.take_all.new.showing begun c.new-showing.ensures c.in-Ok.ensures at in
     hold_done u q (listed_of m) all.done
     (c.in-Ok-end.ensures.shown (held c.args.cache.now) (listed_of m) all.shown)
 
@@ -92,8 +92,8 @@ returns-in-Ok-end-clause-cache g c = λ q at.
     let m = c.take_all.new.listing in
     let begun = has_begun c.in-Ok-Some.field-0 _ _ l c.in-Ok-Some.field-0-is
     c.in-Ok-Some.ensures in
-    let all = all_taken u q _ l m c.args.cache.now c.take_all.new.cache c.in-Ok.showing
-    c.take_all.new.showing begun c.in-Ok.ensures c.in-Ok-take_all.ensures at in
+    let all = all_taken u q _ l m c.args.cache.now c.take_all.new.cache c.new-showing.result
+    c.take_all.new.showing begun c.new-showing.ensures c.in-Ok.ensures at in
     cached_done u q (listed_of m) (held c.args.cache.now) _ all.done
     (c.in-Ok-end.ensures.cache (held c.args.cache.now) (listed_of m) all.shown)
 
@@ -104,8 +104,8 @@ returns-clause-exact g c = λ q at.
     let m = c.take_all.new.listing in
     let begun = has_begun c.in-Ok-Some.field-0 _ _ l c.in-Ok-Some.field-0-is
     c.in-Ok-Some.ensures in
-    let all = all_taken u q _ l m c.args.cache.now c.take_all.new.cache c.in-Ok.showing
-    c.take_all.new.showing begun c.in-Ok.ensures c.in-Ok-take_all.ensures at in
+    let all = all_taken u q _ l m c.args.cache.now c.take_all.new.cache c.new-showing.result
+    c.take_all.new.showing begun c.new-showing.ensures c.in-Ok.ensures at in
     not_shown c.in-Err-end.why c.not_shown.result c.args.p.0 u q (listed_of m) all.done
     (c.in-Err-end.ensures.exact (held c.args.cache.now) (listed_of m) all.shown)
     c.not_shown.ensures.why c.not_shown.ensures.proc c.not_shown.ensures.place

@@ -10,4 +10,4 @@ pub returns-clause-shown : goal.returns-clause-shown
 returns-clause-shown c = λ es ss h. h.shown
 
 pub returns-clause-held : goal.returns-clause-held
-returns-clause-held c = λ es ss h. c.in_ok-put_all.ensures (filter (is_missing es) ss) h.pending ∙ ap (λ m. fold kept m (filter (is_missing es) ss)) h.looked_up
+returns-clause-held c = λ es ss h. c.in_ok-end.ensures (filter (is_missing es) ss) h.pending ∙ ap (λ m. fold kept m (filter (is_missing es) ss)) h.looked_up

@@ -6,7 +6,7 @@ use Rattle.ob_check.proofs.parts.Parts.new.Goals as goal
 pub returns : goal.returns
 returns c = λ cache. record {
   looked_up = refl;
-  pending = c.in_ok-pending.ensures;
+  pending = c.new.ensures;
   count = refl;
   exact = refl;
   shown = λ all. All-from_recursion HasNoIntegerPoint [] tt;

@@ -2,4 +2,4 @@ use Rattle.std.proofs.Common.{refl}
 use Rattle.unit_check.proofs.showing.Showing.new.Goals as goal
 
 pub returns : goal.returns
-returns c = λ d. record { exact = refl; taken = c.in_ok-parts.ensures d }
+returns c = λ d. record { exact = refl; taken = c.new.ensures d }

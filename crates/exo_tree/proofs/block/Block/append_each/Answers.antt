@@ -1,7 +1,7 @@
 use Rattle.std.proofs.Common.{◌++◌, slice_range, map, ap, ◌∙◌}
 use Rattle.exo_tree.specs.PlainStatement.{statement}
 use Rattle.exo_tree.proofs.Trees.{range_of_map}
-use Rattle.exo_tree.proofs.block.Block.append_part.Goals as goal
+use Rattle.exo_tree.proofs.block.Block.append_each.Goals as goal
 
 pub returns : goal.returns
 returns c =
