@@ -48,4 +48,24 @@ impl Amount {
             terms: self.terms + terms,
         })
     }
+
+    /// That of these obligations and then the others; `TooManySystems` where both together pass a
+    /// limit.
+    pub fn joined(self, other: Amount) -> Result<Amount, FormError>
+        ensures { (os ps : List Owed)
+            → IsAmount os self
+            → IsAmount ps other
+            → Counted result (os ++ ps) }
+    {
+        if self.count > MOST_OBLIGATIONS || other.count > MOST_OBLIGATIONS - self.count {
+            return Err(FormError::TooManySystems);
+        }
+        if self.terms > MOST_TERMS || other.terms > MOST_TERMS - self.terms {
+            return Err(FormError::TooManySystems);
+        }
+        Ok(Amount {
+            count: self.count + other.count,
+            terms: self.terms + other.terms,
+        })
+    }
 }

@@ -30,10 +30,12 @@ use Rattle.bounds_check.specs.Obligations.{owed_for_all, first_fault, list_fault
 use Rattle.bounds_check.specs.Outcomes.{IsRefusal}
 use Rattle.bounds_check.specs.Parts.{claims_before, unit_of, proc_of, listed_of, IsListed}
 use Rattle.bounds_check.specs.Parts.{GoesOn, IsRange, IsWhole, PartListed}
+use Rattle.bounds_check.specs.Parts.{HasPassed, IsStripe, owed_in}
 use Rattle.bounds_check.specs.declared.error.CheckError.{CheckError}
 use Rattle.bounds_check.specs.declared.error.CheckError.TheVariants.{TooManyObligations}
 use Rattle.bounds_check.specs.declared.listing.Listing.{Listing}
 use Rattle.bounds_check.specs.declared.listing.Range.{Range}
+use Rattle.bounds_check.specs.declared.stripe.Stripe.{Stripe}
 use Rattle.bounds_check.proofs.Parting.{part_goes_on, part_is_full, owed_more, all_before, part_owable}
 use Rattle.bounds_check.proofs.Parting.{fine_more, refused_whole}
 
@@ -133,12 +135,49 @@ module _ (l : Listing) (is : IsListed l) where
   sources_there q h =
       subst (AreSources l.sources u) (some_is p q (sym is.found ∙ h)) is.sources
 
-  more_is : (m : Bool) → m ≡ has_more u p l.next 2048
-      → m ≡ nat_lt (l.next + 2048) (length (places_of u p))
-  more_is m h =
+  more_is : (c : ℕ) (m : Bool) → m ≡ has_more u p l.next c
+      → m ≡ nat_lt (l.next + c) (length (places_of u p))
+  more_is c m h =
       h
-      ∙ behind_both l.next 2048 (length (places_of u p)) (length (drop l.next (places_of u p)))
+      ∙ behind_both l.next c (length (places_of u p)) (length (drop l.next (places_of u p)))
       (length-drop l.next (places_of u p))
+
+  -- so many places come behind what is listed
+  module _ (c : ℕ) (os : List Owed)
+      (fine : first_fault u p [] (claims_between u p l.next c) ≡ None)
+      (owed : os ≡ owed_for_all u p (claims_between u p l.next c)) where
+    listed_more : listed_of l ++ os ≡ owed_for_all u p (claims_before u p (l.next + c))
+    listed_more =
+        ap (λ ws. listed_of l ++ ws) owed ∙ sym (owed_more u p at (places_of u p) l.next c)
+
+    pub goes_further : (n : ℕ) (m : Bool) (a : Amount)
+        → n ≡ l.next + c
+        → IsAmount (listed_of l ++ os) a
+        → m ≡ has_more u p l.next c
+        → GoesOn l (moved l n m a) × (listed_of (moved l n m a) ≡ listed_of l ++ os)
+    goes_further n m a e counted more =
+        subst (λ (j : ℕ). GoesOn l (moved l j m a)
+        × (listed_of (moved l j m a) ≡ listed_of l ++ os)) (sym e) (
+          record {
+            unit = refl;
+            proc = refl;
+            listed = record {
+              formed = is.formed;
+              found = is.found;
+              roots = is.roots;
+              sources = is.sources;
+              writes = is.writes;
+              modes = is.modes;
+              fine =
+                  fine_more u p at (places_of u p) l.next c is.fine
+                  (part_goes_on u p (listed_of l) (claims_between u p l.next c) fine
+                  (ap (λ ws. are_within (listed_of l ++ ws)) (sym owed) ∙ counted.within));
+              amount = subst (λ ws. IsAmount ws a) listed_more counted;
+              more = more_is c m more;
+            };
+          },
+          sym listed_more,
+        )
 
   module _ (law : PlacesHaveAllClaims) where
     pub owable_range : ClaimsMayBeOwed → (n c : ℕ)
@@ -176,12 +215,6 @@ module _ (l : Listing) (is : IsListed l) where
           by form.Memory w = absurd w
 
       -- or it comes behind what is listed
-      listed_more : listed_of l ++ more
-          ≡ owed_for_all u p (claims_before u p (l.next + 2048))
-      listed_more =
-          ap (λ ws. listed_of l ++ ws) range.owed
-          ∙ sym (owed_more u p at (places_of u p) l.next 2048)
-
       pub goes_on : (n : ℕ) (a : Amount) → n ≡ l.next + 2048
           → ((ws : List Owed) → IsAmount ws l.amount → Counted (Ok a) (ws ++ more))
           → l.more ≡ true
@@ -190,35 +223,30 @@ module _ (l : Listing) (is : IsListed l) where
           × (l.next < length (places_of u p))
           × (l.next < n)
       goes_on n a e k t =
-          subst (λ (j : ℕ). GoesOn l (moved l j r.more a)
-          × (listed_of (moved l j r.more a) ≡ listed_of l ++ more)
-          × (l.next < length (places_of u p))
-          × (l.next < j)) (sym e) (
-            record {
-              unit = refl;
-              proc = refl;
-              listed = record {
-                formed = is.formed;
-                found = is.found;
-                roots = is.roots;
-                sources = is.sources;
-                writes = is.writes;
-                modes = is.modes;
-                fine =
-                    fine_more u p at (places_of u p) l.next 2048 is.fine
-                    (part_goes_on u p (listed_of l) part range.fine
-                    (ap (λ ws. are_within (listed_of l ++ ws)) (sym range.owed) ∙ counted.within));
-                amount = subst (λ ws. IsAmount ws a) listed_more counted;
-                more = more_is r.more range.more;
-              };
-            },
-            sym listed_more,
+          let both = goes_further 2048 more range.fine range.owed n r.more a e
+          (k (listed_of l) is.amount) range.more in (
+            both.0,
+            both.1,
             below l.next (length (places_of u p)) (sym is.more ∙ t),
-            further l.next,
+            subst (λ (j : ℕ). l.next < j) (sym e) (further l.next),
           )
-        where
-          counted : IsAmount (listed_of l ++ more) a
-          counted = k (listed_of l) is.amount
+
+    -- a stripe comes behind what is listed
+    pub passes : (s : Stripe) → IsStripe u p s → s.skip ≡ l.next → 0 < s.places
+        → (n : ℕ) (a : Amount) → n ≡ l.next + s.places
+        → IsAmount (listed_of l ++ owed_in u p s) a
+        → HasPassed s l (moved l n s.more a)
+    passes s stripe at some n a e counted =
+        let here = λ (k : ℕ). claims_between u p k s.places in
+        let both = goes_further s.places (owed_in u p s)
+        (ap (λ k. first_fault u p [] (here k)) (sym at) ∙ stripe.fine)
+        (ap (λ k. owed_for_all u p (here k)) at) n s.more a e counted
+        (stripe.more some ∙ ap (λ k. has_more u p k s.places) at) in
+        record {
+          goes = both.0;
+          listed = both.1;
+          whole = whole law (moved l n s.more a) both.0.listed;
+        }
 
 -- ---- what is told of the claims of some places
 module _ (l : Listing) (is : IsListed l) (n c : ℕ) where

@@ -28,7 +28,7 @@ module _ (u : Program) (p : Procedure) (n c d : ℕ) where
   claims is = flat_map (λ i. placed_at i.0 i.1) is
 
   -- the claims of both
-  both_claims : claims_between u p n c ++ claims_between u p (n + c) d
+  pub both_claims : claims_between u p n c ++ claims_between u p (n + c) d
       ≡ claims_between u p n (c + d)
   both_claims =
       ap (λ is. claims_between u p n c ++ claims (take d is)) (sym (drop-drop c n places))
@@ -36,7 +36,7 @@ module _ (u : Program) (p : Procedure) (n c d : ℕ) where
       (take d (drop c (drop n places))))
       ∙ ap claims (sym (take-add c d (drop n places)))
 
-  both_more : has_more u p (n + c) d ≡ has_more u p n (c + d)
+  pub both_more : has_more u p (n + c) d ≡ has_more u p n (c + d)
   both_more =
       ap (nat_lt d) (length-drop (n + c) places)
       ∙ further_both n c d (length places)

@@ -1,5 +1,5 @@
 -- What is known of a procedure's obligations that are listed in parts.
-use Rattle.std.specs.Prelude.{◌≡◌, ◌<◌, nat_lt, ◌++◌, ℕ, List, [], map, take, length}
+use Rattle.std.specs.Prelude.{◌≡◌, ◌<◌, ◌+◌, nat_lt, false, ◌++◌, ℕ, List, [], map, take, length}
 use Rattle.std.specs.Prelude.{Option, Some, None, Vec, Result, Ok, Err, slice_get}
 use Rattle.exo_tree.specs.Tree.{Procedure, Program}
 use Rattle.exo_tree.specs.PlainProcedure.{procedure}
@@ -23,6 +23,7 @@ use Rattle.bounds_check.specs.declared.error.CheckError.{CheckError}
 use Rattle.bounds_check.specs.declared.error.CheckError.TheVariants.{Memory}
 use Rattle.bounds_check.specs.declared.listing.Listing.{Listing}
 use Rattle.bounds_check.specs.declared.listing.Range.{Range}
+use Rattle.bounds_check.specs.declared.stripe.Stripe.{Stripe}
 
 module _ (u : Program) (p : Procedure) where
   -- the claims of so many first places of the procedure, and what they owe
@@ -90,3 +91,29 @@ BeginsListing (Ok None) u p = p ≡ None
 BeginsListing (Ok (Some l)) u p =
     IsListed l × (unit_of l ≡ u) × (Some (proc_of l) ≡ p) × (l.next ≡ 0)
 BeginsListing (Err e) u p = e ≡ Memory
+
+-- ---- places that are listed by themselves
+
+module _ (u : Program) (p : Procedure) where
+  -- what the places of a stripe owe
+  abbrev pub owed_in : Stripe → List Owed
+  owed_in s = owed_for_all u p (claims_between u p s.skip s.places)
+
+  -- and nothing of it is refused
+  pub record IsStripe (s : Stripe) : Type 0 where
+    pub fine : first_fault u p [] (claims_between u p s.skip s.places) ≡ None
+    pub amount : IsAmount (owed_in s) s.amount
+    pub more : 0 < s.places → s.more ≡ has_more u p s.skip s.places
+
+  -- so many places come behind those of a stripe, and owe that
+  pub record GoesFurther (old new : Stripe) (count : ℕ) (os : List Owed) : Type 0 where
+    pub stripe : IsStripe new
+    pub skip : new.skip ≡ old.skip
+    pub places : new.places ≡ old.places + count
+    pub owed : owed_in new ≡ owed_in old ++ os
+
+-- the places of a stripe come behind what is listed
+pub record HasPassed (s : Stripe) (old new : Listing) : Type 0 where
+  pub goes : GoesOn old new
+  pub listed : listed_of new ≡ listed_of old ++ owed_in (unit_of old) (proc_of old) s
+  pub whole : s.more ≡ false → IsWhole new

@@ -6,7 +6,9 @@ mod error;
 pub mod laws;
 mod list;
 mod listing;
+mod stripe;
 
 pub use error::CheckError;
 pub use list::{obligations, obligations_there, obligations_with_tables};
 pub use listing::Listing;
+pub use stripe::Stripe;

@@ -18,6 +18,7 @@ use crate::claims::{Site, put_claims};
 use crate::error::CheckError;
 use crate::laws::claims_may_be_owed;
 use crate::list::obligations_of_claims;
+use crate::stripe::Stripe;
 use affine_places::Roots;
 use affine_systems::{Amount, Obligation, OwedList};
 use check_claims::laws::places_have_all_claims;
@@ -33,9 +34,12 @@ use std::thread::{Threads, join};
 /// How many places a part has, but for the last one.
 const PLACES: usize = 2_048;
 
+/// How many places a part of a stripe has.
+const STRIPE_PLACES: usize = 512;
+
 /// The number of places behind so many more; one past the greatest number is answered as want of
 /// memory.
-fn behind(places: usize, more: usize) -> Result<usize, CheckError>
+pub(crate) fn behind(places: usize, more: usize) -> Result<usize, CheckError>
     ensures sum { IfOk result (λ n. n ≡ places + more) }
     ensures memory { IfErr result (λ e. e ≡ Memory) }
 {
@@ -133,7 +137,8 @@ pub struct Listing<'u> {
 }
 
 impl<'u> Listing<'u> {
-    ghost use Rattle.std.specs.Prelude.{◌≡◌, true, false, IfErr, IfOk, length, map, slice_get};
+    ghost use Rattle.std.specs.Prelude.{◌≡◌, ◌<◌, true, false, IfErr, IfOk, OnOk, length, map};
+    ghost use Rattle.std.specs.Prelude.{slice_get};
     ghost use Rattle.exo_tree.specs.PlainUnit.{program};
     ghost use Rattle.exo_meaning.specs.Units.{IsUnit};
     ghost use Rattle.meaning_laws.specs.UnitFields.{unit_writes};
@@ -145,7 +150,8 @@ impl<'u> Listing<'u> {
     ghost use Rattle.check_claims.specs.Places.{claims_between, has_more};
     ghost use Rattle.bounds_check.specs.Obligations.{list_fault};
     ghost use Rattle.bounds_check.specs.Parts.{BeginsListing, IsListed, IsRange, IsWhole};
-    ghost use Rattle.bounds_check.specs.Parts.{PartListed};
+    ghost use Rattle.affine_systems.specs.Outcomes.{plain_obligation};
+    ghost use Rattle.bounds_check.specs.Parts.{GoesFurther, HasPassed, IsStripe, PartListed};
     ghost use Rattle.bounds_check.specs.Parts.{listed_of, proc_of, unit_of};
 
     /// Nothing of the procedure `number` of the unit is listed yet; None where the unit has no such
@@ -352,5 +358,43 @@ impl<'u> Listing<'u> {
         self.next = behind(self.next, PLACES)?;
         self.more = range.more;
         Ok(range.owed)
+    }
+
+    /// What the next 512 places of a stripe owe. After an error nothing is said of the stripe.
+    pub fn next_of_stripe(
+        &self,
+        alloc: Global,
+        stripe: &mut Stripe,
+    ) -> Result<Vec<Obligation>, CheckError>
+        requires listed { IsListed self.now }
+        requires stripe { IsStripe (unit_of self.now) (proc_of self.now) stripe.old }
+        ensures { IfOk result (λ part. GoesFurther (unit_of self.now) (proc_of self.now)
+            stripe.old stripe.new 512 (map plain_obligation part.items)) }
+    {
+        let at = behind(stripe.skip, stripe.places)?;
+        let range = self.owed_between(alloc, at, STRIPE_PLACES)?;
+        stripe.amount = stripe.amount.grown_by(&range.owed)?;
+        stripe.places = behind(stripe.places, STRIPE_PLACES)?;
+        stripe.more = range.more;
+        Ok(range.owed)
+    }
+
+    /// Lists the places of a stripe that begins where this listing is. After an error the listing
+    /// is as it was.
+    pub fn pass(&mut self, stripe: Stripe) -> Result<(), CheckError>
+        requires listed { IsListed self.old }
+        requires stripe { IsStripe (unit_of self.old) (proc_of self.old) stripe }
+        requires next { stripe.skip ≡ self.old.next }
+        requires some { 0 < stripe.places }
+        ensures passed { OnOk result (HasPassed stripe self.old self.new) }
+        ensures same { IfErr result (λ _. self.new ≡ self.old) }
+    {
+        places_have_all_claims();
+        let amount = self.amount.joined(stripe.amount)?;
+        let next = behind(self.next, stripe.places)?;
+        self.amount = amount;
+        self.next = next;
+        self.more = stripe.more;
+        Ok(())
     }
 }

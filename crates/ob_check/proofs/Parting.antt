@@ -115,3 +115,33 @@ taken es ss ts c d p q a h looked pended counted joined exact shown = record {
   exact = more_exact elimination ss ts p.count p.answer a q.answer h.count h.exact exact joined;
   shown = more_shown ss ts p.count p.answer a q.answer h.shown shown joined;
 }
+
+-- ---- the parts of one list behind those of another
+
+nothing_asked : (ss : List Constraints) → fold asked [] ss ≡ []
+nothing_asked [] = refl
+nothing_asked (s ∷ ss) = nothing_asked ss
+
+pub appended : (ss ts : List Constraints) (c d : Cache) (p q r : Parts)
+    → AreTaken [] ss c p → AreTaken [] ts d q
+    → ((xs ys : List Constraints)
+    → ArePending xs p.pending
+    → ArePending ys q.pending
+    → ArePending (xs ++ ys) r.pending)
+    → r.count ≡ p.count + q.count
+    → r.answer ≡ joined_answer p.count p.answer q.answer
+    → AreTaken [] (ss ++ ts) c r
+appended ss ts c d p q r h k pended counted joined = record {
+  looked_up = h.looked_up ∙ nothing_asked ss ∙ sym (nothing_asked (ss ++ ts));
+  pending =
+      subst (λ ms. ArePending ms r.pending) (sym (filter-append (is_missing []) ss ts))
+      (pended (filter (is_missing []) ss) (filter (is_missing []) ts) h.pending k.pending);
+  count =
+      counted
+      ∙ ap (λ n. n + q.count) h.count
+      ∙ ap (λ n. length ss + n) k.count
+      ∙ sym (length-append ss ts);
+  exact =
+      more_exact elimination ss ts p.count p.answer q.answer r.answer h.count h.exact k.exact joined;
+  shown = more_shown ss ts p.count p.answer q.answer r.answer h.shown k.shown joined;
+}

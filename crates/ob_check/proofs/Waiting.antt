@@ -1,5 +1,5 @@
 -- Verdicts that wait, with more of them.
-use Rattle.std.proofs.Common.{◌≡◌, ◌==◌, Bool, true, false, length, List, [], ◌∷◌, ◌++◌, map, refl, sym, ap, ◌∙◌, subst, arith}
+use Rattle.std.proofs.Common.{◌≡◌, ◌==◌, Bool, true, length, List, [], ◌∷◌, ◌++◌, map, refl, sym, ap, ◌∙◌, subst, arith}
 use Rattle.std.proofs.lemmas.Bool.Decides.{nat_tests}
 use Rattle.std.specs.Prelude.{fold}
 use Rattle.std.proofs.lemmas.List.Sums.{fold-append}
@@ -11,7 +11,7 @@ use Rattle.ob_check.specs.Entries.{kept}
 use Rattle.ob_check.specs.Parts.{ArePending}
 use Rattle.ob_check.specs.Systems.{system_known}
 
-alone : {A : Type 0} (xs : List A) → xs ++ [] ≡ xs
+pub alone : {A : Type 0} (xs : List A) → xs ++ [] ≡ xs
 alone [] = refl
 alone (x ∷ xs) = ap (λ ys. x ∷ ys) (alone xs)
 

@@ -37,7 +37,7 @@ pub struct Cache {
 }
 
 impl Cache {
-    ghost use Rattle.std.specs.Prelude.{◌≡◌, not, [], List, IsTrue, map, fold, IfOk, OnOk};
+    ghost use Rattle.std.specs.Prelude.{◌≡◌, true, not, [], List, IsTrue, map, fold, IfOk, OnOk};
     ghost use Rattle.affine_forms.specs.Affine.{Constraints};
     ghost use Rattle.affine_forms.specs.System.{plain_system};
     ghost use Rattle.ob_check.specs.Truth.{IsTrueOf, is_small};
@@ -53,6 +53,13 @@ impl Cache {
         let capacity = NonZeroUsize::new(CAPACITY).unwrap();
         let verdicts = LruCache::sparse(alloc, capacity)?;
         Ok(Cache { verdicts })
+    }
+
+    /// Whether it keeps no verdict.
+    pub fn is_empty(&self) -> bool
+        ensures { result ≡ true → held self.now ≡ [] }
+    {
+        self.verdicts.is_empty()
     }
 
     /// What the cache says of a system, which comes first from then on.

@@ -112,6 +112,23 @@ impl Parts {
         Ok(answer)
     }
 
+    /// Takes the parts that were taken elsewhere behind these, each over a cache that was empty.
+    pub fn append(&mut self, other: Parts) -> Result<(), AllocError>
+        ensures { (ss ts : List Constraints) (c d : Cache)
+            → AreTaken [] ss c self.old
+            → AreTaken [] ts d other
+            → OnOk result (AreTaken [] (ss ++ ts) c self.new) }
+    {
+        let Parts {
+            pending,
+            count,
+            answer,
+        } = other;
+        self.pending.append(pending)?;
+        self.count_in(count, answer)?;
+        Ok(())
+    }
+
     /// The answer on the whole list, with the index in it. The cache ends as after one `discharge`
     /// of the whole.
     pub fn end(self, cache: &mut Cache) -> Result<Answer, AllocError>

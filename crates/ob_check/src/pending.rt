@@ -99,6 +99,30 @@ impl Pending {
         Ok(())
     }
 
+    /// Lets the verdicts that wait elsewhere wait here, behind those that do.
+    pub(crate) fn append(&mut self, other: Pending) -> Result<(), AllocError>
+        ensures { (ss ts : List Constraints)
+            → ArePending ss self.old
+            → ArePending ts other
+            → OnOk result (ArePending (ss ++ ts) self.new) }
+    {
+        let Pending { cache: more } = other;
+        let Some(more) = more else {
+            return Ok(());
+        };
+        match self.cache.take() {
+            None => {
+                self.cache = Some(more);
+                Ok(())
+            }
+            Some(mut cache) => {
+                cache.put_all(more)?;
+                self.cache = Some(cache);
+                Ok(())
+            }
+        }
+    }
+
     /// Puts them in the cache that is to keep them.
     pub(crate) fn end(self, cache: &mut Cache) -> Result<(), AllocError>
         ensures { (ss : List Constraints)

@@ -11,4 +11,5 @@ pub mod Placed
 pub mod Caching
 pub mod Parted
 pub mod Taking
+pub mod Striped
 pub mod Crossing

@@ -100,9 +100,9 @@ if_taken (Err w) es ss ps c p is h = tt
 pub shown_behind : (es : Entries) (os ps : List Owed) (c d : Cache) (s t : Showing)
     → is_ok s.found ≡ true
     → Shows t.found (first_open ps)
-    → ((ds : Entries) (ss : List Constraints)
-    → AreTaken ds ss c s.parts
-    → OnOk t.found (AreTaken ds (ss ++ systems_in ps) d t.parts))
+    → ((ss : List Constraints)
+    → AreTaken es ss c s.parts
+    → OnOk t.found (AreTaken es (ss ++ systems_in ps) d t.parts))
     → AreShown es os c s
     → AreShown es (os ++ ps) d t
 shown_behind es os ps c d s t good shows more h = record {
@@ -110,7 +110,7 @@ shown_behind es os ps c d s t good shows more h = record {
   taken =
       if_taken t.found es (systems_in os ++ systems_in ps) (systems_in (os ++ ps)) d t.parts
       (sym (systems_on os ps))
-      (more es (systems_in os)
+      (more (systems_in os)
       (holds_so s.found (AreTaken es (systems_in os) c s.parts) good h.taken));
 }
 

@@ -23,7 +23,7 @@ use Rattle.bounds_check.specs.declared.listing.Listing.{Listing}
 use Rattle.unit_check.specs.Cached.{systems_in}
 use Rattle.unit_check.specs.Checked.{Cause, NotShown, first_open, cause_of}
 use Rattle.unit_check.specs.Outcomes.{IsCause, Answers, Shows, place_in}
-use Rattle.unit_check.specs.Parts.{AreShown, TakesAll}
+use Rattle.unit_check.specs.Parts.{AreAllTaken, AreShown, ShowsAll, TakesAll}
 use Rattle.unit_check.specs.declared.refused.UnitRefused.{UnitRefused}
 use Rattle.unit_check.specs.declared.refused.Why.{Why}
 use Rattle.unit_check.specs.declared.refused.Why.TheVariants as why
@@ -125,12 +125,13 @@ pub last_taken : (start now : Listing) (c₀ c d : Cache) (s₀ s t : Showing) (
     → TakesAll {A = Unit {0}} (Ok tt) es start now d t
 last_taken start now c₀ c d s₀ s t part was all more es so =
     let w = was.shown es so in
-    let is = whole start now was.goes all in (
-      was.goes,
-      is.0,
-      is.1,
-      subst (λ (l : List Owed). AreShown es l d t) (sym w.1) (more es w.0 w.2),
-    )
+    let is = whole start now was.goes all in
+    record {
+      goes = was.goes;
+      none = is.0;
+      owed = is.1;
+      shown = subst (λ (l : List Owed). AreShown es l d t) (sym w.1) (more es w.0 w.2);
+    }
 
 -- a refusal that is passed on
 pub takes_refused : (r : Result (Unit {0}) CheckError) (e : CheckError) (es : Entries)
@@ -288,33 +289,35 @@ pub record AreTakenAll (u : Program) (q : Procedure) (m : Listing) (es : Entries
   pub done : IsDone u q (listed_of m)
   pub shown : AreShown es (listed_of m) c s
 
-pub all_taken : (u : Program) (q : Procedure) (o : Option Procedure) (l m : Listing) (c d : Cache)
-    (s t : Showing)
+pub all_taken : (u : Program) (q : Procedure) (o : Option Procedure) (l m : Listing) (es : Entries)
+    (d : Cache) (t : Showing)
     → HasBegun u o l
-    → ((e : Cache) → AreShown (held e) [] e s)
-    → ((es : Entries)
-    → AreShown es (listed_of l) c s
-    → TakesAll {A = Unit {0}} (Ok tt) es l m d t)
+    → AreAllTaken es l m d t
     → o ≡ Some q
-    → AreTakenAll u q m (held c) d t
-all_taken u q o l m c d s t begun none takes at =
-    let h = takes (held c) (at_start l c s begun.none none) in
-    record {
-      listed = h.0.listed;
-      done = done u q o l m begun.unit begun.found at h.1 h.2;
-      shown = h.3;
-    }
+    → AreTakenAll u q m es d t
+all_taken u q o l m es d t begun all at = record {
+  listed = all.goes.listed;
+  done = done u q o l m begun.unit begun.found at all.none all.owed;
+  shown = all.shown;
+}
 
--- something of it is refused
-pub refused_taking : (e : CheckError) (u : Program) (q : Procedure) (o : Option Procedure)
-    (l m : Listing) (c d : Cache) (s t : Showing)
-    → HasBegun u o l
+-- part by part, from the beginning
+pub taken_in_parts : (l m : Listing) (c d : Cache) (s t : Showing)
+    → l.next ≡ 0
+    → ((e : Cache) → AreShown (held e) [] e s)
+    → ((es : Entries) → AreShown es (listed_of l) c s → TakesAll {A = Unit {0}} (Ok tt) es l m d t)
+    → AreAllTaken (held c) l m d t
+taken_in_parts l m c d s t begins none takes = takes (held c) (at_start l c s begins none)
+
+-- or refused so
+pub refused_in_parts : (r : Result Showing CheckError) (e : CheckError) (l m : Listing) (c d : Cache)
+    (s t : Showing)
+    → IsErrAnd r (λ y. y ≡ e)
+    → l.next ≡ 0
     → ((k : Cache) → AreShown (held k) [] k s)
-    → ((es : Entries)
-    → AreShown es (listed_of l) c s
-    → TakesAll {A = Unit {0}} (Err e) es l m d t)
-    → o ≡ Some q
-    → IsRefusal e (list_fault u q)
-refused_taking e u q o l m c d s t begun none takes at =
-    refused_in e u q o l begun.unit begun.found at
-    (takes (held c) (at_start l c s begun.none none))
+    → ((es : Entries) → AreShown es (listed_of l) c s → TakesAll {A = Unit {0}} (Err e) es l m d t)
+    → ShowsAll r (held c) l m d
+refused_in_parts (Ok x) e l m c d s t is begins none takes = absurd is
+refused_in_parts (Err y) e l m c d s t is begins none takes =
+    subst (λ (z : CheckError). IsRefusal z (list_fault (unit_of l) (proc_of l))) (sym is)
+    (takes (held c) (at_start l c s begins none))

@@ -1,5 +1,5 @@
 //! The check of a unit.
-ghost use Rattle.std.specs.Prelude.{◌≡◌, ◌≤◌, ◌++◌, true, List, All, IfOk, OnOk, Some};
+ghost use Rattle.std.specs.Prelude.{◌≡◌, ◌<◌, ◌≤◌, ◌++◌, true, List, All, IfOk, OnOk, Some};
 ghost use Rattle.std.specs.Prelude.{length, map, slice_get};
 ghost use Rattle.exo_tree.specs.Tree.{Procedure};
 ghost use Rattle.exo_tree.specs.PlainUnit.{program};
@@ -21,11 +21,12 @@ ghost use Rattle.unit_check.specs.Checked.{NotListed, cause_of, checked, AllHold
 ghost use Rattle.unit_check.specs.Cached.{discharged_all, systems_in};
 ghost use Rattle.unit_check.specs.Outcomes.{IsChecked, Answers, IsOf, place_in};
 ghost use Rattle.unit_check.specs.Faults.{NothingFaults};
-ghost use Rattle.unit_check.specs.Parts.{AreShown, TakesAll};
+ghost use Rattle.unit_check.specs.Parts.{AreShown, ShowsAll, TakesAll};
 
 use crate::laws::shown_procedures_do_not_fault;
 use crate::refused::{UnitRefused, Why};
 use crate::showing::Showing;
+use crate::stripes::{stripes_of, take_stripes};
 use affine_systems::Obligation;
 use bounds_check::{CheckError, Listing};
 use config_state::{FieldTable, written_table};
@@ -135,6 +136,48 @@ fn take_all<R: Threads + Sync, G: Gate>(
     Ok(())
 }
 
+/// Lists what a procedure owes and shows it, part by part from its first place on.
+fn show_in_parts<R: Threads + Sync, G: Gate>(
+    rt: &R,
+    alloc: Global,
+    listing: &mut Listing<'_>,
+    cache: &mut Cache,
+    gate: &G,
+) -> Result<Showing, CheckError>
+    requires listed { IsListed listing.old }
+    requires begins { listing.old.next ≡ 0 }
+    ensures { ShowsAll result (held cache.old) listing.old listing.new cache.new }
+{
+    let mut showing = Showing::new();
+    take_all(rt, alloc, listing, &mut showing, cache, gate)?;
+    Ok(showing)
+}
+
+/// Lists what a procedure owes and shows it: in so many stripes where there are more than one and
+/// the cache is empty, else part by part.
+fn show_all<R: Threads + Sync, G: Gate>(
+    rt: &R,
+    alloc: Global,
+    listing: &mut Listing<'_>,
+    stripes: usize,
+    cache: &mut Cache,
+    gate: &G,
+) -> Result<Showing, CheckError>
+    requires listed { IsListed listing.old }
+    requires begins { listing.old.next ≡ 0 }
+    requires some { 0 < stripes }
+    requires few { stripes ≤ 32 }
+    ensures { ShowsAll result (held cache.old) listing.old listing.new cache.new }
+{
+    if stripes < 2 || !cache.is_empty() {
+        return show_in_parts(rt, alloc, listing, cache, gate);
+    }
+    match take_stripes(rt, alloc, listing, stripes, gate) {
+        Some(showing) => Ok(showing),
+        None => show_in_parts(rt, alloc, listing, cache, gate),
+    }
+}
+
 /// Discharges the obligations of a procedure, and counts them. The tables say which fields each procedure may write, and how it
 /// touches its parameters.
 fn check_procedure<R: Threads + Sync, G: Gate>(
@@ -171,11 +214,11 @@ fn check_procedure<R: Threads + Sync, G: Gate>(
         Ok(None) => return Ok(0),
         Err(e) => return Err(not_listed(p, e)),
     };
-    let mut showing = Showing::new();
-    match take_all(rt, alloc, &mut listing, &mut showing, cache, gate) {
-        Ok(()) => {}
+    let stripes = stripes_of(unit, p);
+    let showing = match show_all(rt, alloc, &mut listing, stripes, cache, gate) {
+        Ok(showing) => showing,
         Err(e) => return Err(not_listed(p, e)),
-    }
+    };
     match showing.end(cache) {
         Ok(()) => Ok(listing.count() as u64),
         Err(why) => Err(not_shown(p, why)),

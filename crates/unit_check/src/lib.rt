@@ -6,6 +6,7 @@ pub mod laws;
 mod line;
 mod refused;
 mod showing;
+mod stripes;
 
 pub use check::check_unit;
 pub use line::line_of;

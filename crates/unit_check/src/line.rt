@@ -18,7 +18,7 @@ use exo_tree::{Block, Branch, Path, Proc, ProcId, ProcLines, Step, Stmt, Unit};
 
 /// The number of statements of a block, at every depth.
 #[cycle(count)]
-fn count(b: &Block) -> usize
+pub(crate) fn count(b: &Block) -> usize
     ensures { result ≡ capped (nodes_in (block b.now)) }
 {
     count_first(b, b.len())

@@ -1,7 +1,7 @@
 //! Whether all of some obligations are shown.
-ghost use Rattle.std.specs.Prelude.{◌≡◌, ◌++◌, List, All, IfOk, OnOk, map};
+ghost use Rattle.std.specs.Prelude.{◌≡◌, ◌++◌, List, [], All, IfOk, OnOk, map};
 ghost use Rattle.affine_forms.specs.Affine.{Constraints, HasNoIntegerPoint};
-ghost use Rattle.affine_systems.specs.Outcomes.{plain_obligation};
+ghost use Rattle.affine_systems.specs.Outcomes.{Owed, plain_obligation};
 ghost use Rattle.affine_prover.specs.Elimination.{elimination};
 ghost use Rattle.affine_prover.specs.declared.answer.Verdict.{Verdict};
 ghost use Rattle.ob_check.specs.Answers.{answer_of};
@@ -9,9 +9,11 @@ ghost use Rattle.ob_check.specs.Entries.{discharged};
 ghost use Rattle.ob_check.specs.Held.{held};
 ghost use Rattle.ob_check.specs.Parts.{AreTaken};
 ghost use Rattle.ob_check.specs.Systems.{systems_of};
+ghost use Rattle.ob_check.specs.declared.cache.Cache.{Cache};
 ghost use Rattle.unit_check.specs.Cached.{systems_in};
 ghost use Rattle.unit_check.specs.Checked.{first_open};
 ghost use Rattle.unit_check.specs.Outcomes.{Shows};
+ghost use Rattle.unit_check.specs.Parts.{AreShown};
 ghost use Rattle.unit_check.specs.declared.refused.Why.TheVariants.{NotShown};
 
 use crate::refused::Why;
@@ -90,6 +92,26 @@ fn show_part<R: Threads + Sync, G: Gate>(
     }
 }
 
+/// What is shown of obligations whose parts were taken elsewhere.
+fn show_elsewhere(parts: &mut Parts, other: Showing) -> Result<(), Why>
+    ensures exact { (os : List Owed) (d : Cache)
+        → AreShown [] os d other
+        → Shows result (first_open os) }
+    ensures taken { (ss : List Constraints) (os : List Owed) (c d : Cache)
+        → AreTaken [] ss c parts.old
+        → AreShown [] os d other
+        → OnOk result (AreTaken [] (ss ++ systems_in os) c parts.new) }
+{
+    let Showing { parts: more, found } = other;
+    match found {
+        Err(why) => Err(why),
+        Ok(()) => match parts.append(more) {
+            Ok(()) => Ok(()),
+            Err(_) => Err(Why::Memory),
+        },
+    }
+}
+
 /// What is shown of obligations that come in parts. Once one is not shown, no more are decided.
 #[derive(Drop)]
 pub(crate) struct Showing {
@@ -135,6 +157,18 @@ impl Showing {
     {
         if self.found.is_ok() {
             self.found = show_part(rt, alloc, part, &mut self.parts, cache, gate);
+        }
+    }
+
+    /// Takes parts that were taken elsewhere, each over a cache that was empty, behind its own.
+    pub(crate) fn append(&mut self, other: Showing)
+        ensures { (os ps : List Owed) (c d : Cache)
+            → AreShown [] os c self.old
+            → AreShown [] ps d other
+            → AreShown [] (os ++ ps) c self.new }
+    {
+        if self.found.is_ok() {
+            self.found = show_elsewhere(&mut self.parts, other);
         }
     }
 
