@@ -1,10 +1,11 @@
 //! The check of a long procedure, in stripes of its places.
-ghost use Rattle.std.specs.Prelude.{◌≡◌, ◌<◌, ◌≤◌, ◌+◌, ◌*◌, [], IfOk, MatchOption};
+ghost use Rattle.std.specs.Prelude.{◌≡◌, ◌<◌, ◌≤◌, ◌+◌, ◌*◌, [], IfOk, MatchOption, slice_get};
 ghost use Rattle.std.specs.Thread.{IsSync};
+ghost use Rattle.exo_tree.specs.PlainUnit.{program};
 ghost use Rattle.bounds_check.specs.Parts.{IsListed, proc_of, unit_of};
 ghost use Rattle.ob_check.specs.Held.{held};
 ghost use Rattle.ob_check.specs.declared.cache.Cache.{Cache};
-ghost use Rattle.unit_check.specs.Parts.{AreAllTaken, IsShown};
+ghost use Rattle.unit_check.specs.Parts.{AreAllTaken, IsShown, stripes_in};
 
 use crate::line::count;
 use crate::showing::Showing;
@@ -52,6 +53,7 @@ impl Shown {
 
 /// In how many stripes a procedure is checked: in as many as its places fill, but at most 32.
 pub(crate) fn stripes_of(unit: &Unit, p: ProcId) -> usize
+    ensures exact { result ≡ stripes_in (slice_get (program unit.now).procedures p.0) }
     ensures some { 0 < result }
     ensures few { result ≤ 32 }
 {
