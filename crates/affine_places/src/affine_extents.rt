@@ -19,7 +19,7 @@ use exo_tree::{Block, Ctrl, Indices, ParamKind, Params, Proc, ProcId, Stmt, Unit
 const MOST_DIMENSIONS: usize = 8;
 
 /// Whether an expression is affine and over variables alone.
-fn is_over_variables(e: &Ctrl) -> bool
+pub fn is_over_variables(e: &Ctrl) -> bool
     ensures { result ≡ is_affine variables (control e.now) }
 {
     match e {

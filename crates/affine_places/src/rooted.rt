@@ -29,7 +29,7 @@ pub(crate) fn first_dims(alloc: Global, rank: u32) -> Result<Vec<u32>, AllocErro
 }
 
 /// Whether a coordinate is a span.
-fn is_span(c: &Coord) -> bool
+pub fn is_span(c: &Coord) -> bool
     ensures { result ≡ is_span (coordinate c.now) }
 {
     match c {

@@ -5,3 +5,4 @@ pub mod Rounds
 pub mod Solving
 pub mod OpenRows
 pub mod OpenEquations
+pub mod OfRowSets

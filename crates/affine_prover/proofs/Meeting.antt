@@ -11,16 +11,22 @@ use Rattle.std.proofs.Math.IntN.{*ℤ-zero, zero-*ℤ}
 use Rattle.affine_prover.specs.declared.answer.Verdict.TheVariants.{Shown, Open, TooWide}
 use Rattle.affine_forms.specs.Affine.{Affine, Constraints, dot, value, HasNoIntegerPoint}
 use Rattle.affine_prover.specs.Elimination.{put_in, round_of, round_on, round, verdict_on, elimination, verdict_on_rows, Round}
-use Rattle.affine_rows.specs.Rows.{gcd_of, weighed, weighed_lists, combined, coefficient, tightened, is_constant, is_impossible, is_unit, has_unit, unit_place, solving_factor, substituted, is_narrow_substituted, negated, reduced}
+use Rattle.affine_prover.specs.RowSets.Rows.{gcd_of, weighed, weighed_lists, combined, coefficient}
+use Rattle.affine_prover.specs.RowSets.Rows.{tightened, is_constant, is_impossible, is_unit}
+use Rattle.affine_prover.specs.RowSets.Rows.{has_unit, unit_place, solving_factor, substituted}
+use Rattle.affine_prover.specs.RowSets.Rows.{is_narrow_substituted, negated, reduced}
 use Rattle.affine_prover.specs.Elimination.Round.{Finished, Solved, Unsolved}
 use Rattle.affine_forms.proofs.Integers.{times-add, neg-times}
-use Rattle.affine_rows.proofs.Values.{value-combined, value-without}
-use Rattle.affine_rows.proofs.Divisors.{gcd_of-divides, quotient-exact}
-use Rattle.affine_rows.proofs.Tightening.{dot-divided}
-use Rattle.affine_rows.proofs.Everywhere.{everywhere-append, everywhere-map, everywhere-flat_map, everywhere-filter, everywhere-like, everywhere-both}
-use Rattle.affine_rows.proofs.Widths.{IsWide, tightened-wide, length-weighed_lists, length-remove}
-use Rattle.affine_rows.proofs.Truth.{Holds}
-use Rattle.affine_rows.proofs.Combining.{HoldsWide, weighed_at}
+use Rattle.affine_prover.proofs.OfRowSets.Values.{value-combined, value-without}
+use Rattle.affine_prover.proofs.OfRowSets.Divisors.{gcd_of-divides, quotient-exact}
+use Rattle.affine_prover.proofs.OfRowSets.Tightening.{dot-divided}
+use Rattle.affine_prover.proofs.OfRowSets.Everywhere.{everywhere-append, everywhere-map}
+use Rattle.affine_prover.proofs.OfRowSets.Everywhere.{everywhere-flat_map, everywhere-filter}
+use Rattle.affine_prover.proofs.OfRowSets.Everywhere.{everywhere-like, everywhere-both}
+use Rattle.affine_prover.proofs.OfRowSets.Widths.{IsWide, tightened-wide, length-weighed_lists}
+use Rattle.affine_prover.proofs.OfRowSets.Widths.{length-remove}
+use Rattle.affine_prover.proofs.OfRowSets.Truth.{Holds}
+use Rattle.affine_prover.proofs.OfRowSets.Combining.{HoldsWide, weighed_at}
 use Rattle.affine_prover.proofs.Shown.{IsRight, verdict_on_rows-right}
 
 -- the equation is 0 at the point

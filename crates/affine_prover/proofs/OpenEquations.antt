@@ -12,20 +12,25 @@ use Rattle.std.proofs.Math.IntN.{*ℤ-zero}
 use Rattle.affine_prover.specs.declared.answer.Verdict.TheVariants.{Open, TooWide}
 use Rattle.affine_forms.specs.Affine.{Affine, Constraints, dot, value_over, HasRationalPoint}
 use Rattle.affine_prover.specs.Elimination.{put_in, round_of, round_on, round, verdict_on, verdict_on_rows, elimination, Round}
-use Rattle.affine_rows.specs.Rows.{gcd, gcd_of, coefficient, without, tightened, is_constant, is_impossible, is_unit, has_unit, unit_place, solving_factor, substituted, is_narrow_substituted, negated, reduced}
+use Rattle.affine_prover.specs.RowSets.Rows.{gcd, gcd_of, coefficient, without, tightened}
+use Rattle.affine_prover.specs.RowSets.Rows.{is_constant, is_impossible, is_unit, has_unit}
+use Rattle.affine_prover.specs.RowSets.Rows.{unit_place, solving_factor, substituted}
+use Rattle.affine_prover.specs.RowSets.Rows.{is_narrow_substituted, negated, reduced}
 use Rattle.affine_prover.specs.Elimination.Round.{Finished, Solved, Unsolved}
 use Rattle.affine_forms.proofs.Integers.{times-add, neg-times, times_assoc}
-use Rattle.affine_rows.proofs.Divisors.{gcd_of-divides, quotient-exact}
-use Rattle.affine_rows.proofs.Tightening.{dot-divided}
-use Rattle.affine_rows.proofs.Everywhere.{everywhere-both, everywhere-like, everywhere-filter, everywhere-map, both}
-use Rattle.affine_rows.proofs.Widths.{IsWide, tightened-wide}
-use Rattle.affine_rows.proofs.Truth.{all_zero-dot}
+use Rattle.affine_prover.proofs.OfRowSets.Divisors.{gcd_of-divides, quotient-exact}
+use Rattle.affine_prover.proofs.OfRowSets.Tightening.{dot-divided}
+use Rattle.affine_prover.proofs.OfRowSets.Everywhere.{everywhere-both, everywhere-like}
+use Rattle.affine_prover.proofs.OfRowSets.Everywhere.{everywhere-filter, everywhere-map, both}
+use Rattle.affine_prover.proofs.OfRowSets.Widths.{IsWide, tightened-wide}
+use Rattle.affine_prover.proofs.OfRowSets.Truth.{all_zero-dot}
 use Rattle.affine_prover.proofs.Meeting.{unit_place-is, found-is, dot-negated, everywhere-remove}
 use Rattle.affine_prover.proofs.Solving.{RoundWide, round-wide}
-use Rattle.affine_rows.proofs.Fractions.{swap_times, over-insert, over-combined_without}
-use Rattle.affine_rows.proofs.Parts.{parts-append, parts-map, parts-flat_map, parts-filter, none-pass}
-use Rattle.affine_rows.proofs.Loosening.{HoldsOver}
-use Rattle.affine_rows.proofs.Returning.{HasRowPoint, times-neg}
+use Rattle.affine_prover.proofs.OfRowSets.Fractions.{swap_times, over-insert, over-combined_without}
+use Rattle.affine_prover.proofs.OfRowSets.Parts.{parts-append, parts-map, parts-flat_map}
+use Rattle.affine_prover.proofs.OfRowSets.Parts.{parts-filter, none-pass}
+use Rattle.affine_prover.proofs.OfRowSets.Loosening.{HoldsOver}
+use Rattle.affine_prover.proofs.OfRowSets.Returning.{HasRowPoint, times-neg}
 use Rattle.affine_prover.proofs.OpenRows.{HasIfOpen, open-carries, verdict_on_rows-has_point}
 
 -- the equation is 0 where each variable is its numerator over d

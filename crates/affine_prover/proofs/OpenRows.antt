@@ -8,13 +8,16 @@ use Rattle.affine_prover.specs.declared.answer.Verdict.{Verdict}
 use Rattle.affine_prover.specs.declared.answer.Verdict.TheVariants.{Shown, Open, TooMany, TooWide}
 use Rattle.affine_forms.specs.Affine.{Affine}
 use Rattle.affine_prover.specs.Elimination.{variable_eliminated, stage, stage_of, verdict_on_rows}
-use Rattle.affine_rows.specs.Rows.{is_constant, is_false, is_free, tightened, merged, normalized, pairs, least_at, following, is_narrow_following}
+use Rattle.affine_prover.specs.RowSets.Rows.{is_constant, is_false, is_free, tightened, merged}
+use Rattle.affine_prover.specs.RowSets.Rows.{normalized, pairs, least_at, following}
+use Rattle.affine_prover.specs.RowSets.Rows.{is_narrow_following}
 use Rattle.affine_prover.specs.Elimination.Stage.{Ended, Rows}
-use Rattle.affine_rows.proofs.Everywhere.{everywhere-map}
-use Rattle.affine_rows.proofs.Widths.{IsWide, AreWide, least_at-below, tightened-wide, normalized-wide}
+use Rattle.affine_prover.proofs.OfRowSets.Everywhere.{everywhere-map}
+use Rattle.affine_prover.proofs.OfRowSets.Widths.{IsWide, AreWide, least_at-below, tightened-wide}
+use Rattle.affine_prover.proofs.OfRowSets.Widths.{normalized-wide}
 use Rattle.affine_prover.proofs.Staging.{following-wide}
-use Rattle.affine_rows.proofs.Loosening.{normalized-loosens}
-use Rattle.affine_rows.proofs.Returning.{HasRowPoint, following-returns}
+use Rattle.affine_prover.proofs.OfRowSets.Loosening.{normalized-loosens}
+use Rattle.affine_prover.proofs.OfRowSets.Returning.{HasRowPoint, following-returns}
 
 -- what a verdict promises: X where it is Open
 abbrev pub HasIfOpen : Type 0 → Verdict → Type 0

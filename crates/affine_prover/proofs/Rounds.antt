@@ -9,13 +9,16 @@ use Rattle.std.proofs.lemmas.List.Elements.{All-from_recursion, recursion_from_A
 use Rattle.std.proofs.Math.Bool.{and-false}
 use Rattle.affine_prover.specs.declared.answer.Verdict.TheVariants.{Shown, TooWide}
 use Rattle.affine_forms.specs.Affine.{Affine}
-use Rattle.affine_rows.specs.Shapes.{AreWide}
+use Rattle.affine_prover.specs.RowSets.Shapes.{AreWide}
 use Rattle.affine_prover.specs.Elimination.{put_in, round_of, round_on, round, Round}
-use Rattle.affine_rows.specs.Rows.{is_constant, is_impossible, tightened, has_unit, unit_place, substituted, is_narrow_substituted, negated, reduced}
+use Rattle.affine_prover.specs.RowSets.Rows.{is_constant, is_impossible, tightened, has_unit}
+use Rattle.affine_prover.specs.RowSets.Rows.{unit_place, substituted, is_narrow_substituted}
+use Rattle.affine_prover.specs.RowSets.Rows.{negated, reduced}
 use Rattle.affine_prover.specs.Elimination.Round.{Finished, Solved, Unsolved}
-use Rattle.affine_rows.proofs.Narrow.{some-kept, none-kept}
-use Rattle.affine_rows.proofs.Everywhere.{everywhere-map, everywhere-filter, everywhere-like}
-use Rattle.affine_rows.proofs.Widths.{IsWide, tightened-wide}
+use Rattle.affine_prover.proofs.OfRowSets.Narrow.{some-kept, none-kept}
+use Rattle.affine_prover.proofs.OfRowSets.Everywhere.{everywhere-map, everywhere-filter}
+use Rattle.affine_prover.proofs.OfRowSets.Everywhere.{everywhere-like}
+use Rattle.affine_prover.proofs.OfRowSets.Widths.{IsWide, tightened-wide}
 
 find-first : {X : Type 0} (p : X → Bool) (xs : List X) (i : ℕ) (x : X) → i < length xs → x ≡ get_or xs i x → p x ≡ true → ((k : ℕ) → k < i → p (get_or xs k x) ≡ false) → find p xs ≡ Some x
 find-first p [] i x l e h n = absurd (omega arith)

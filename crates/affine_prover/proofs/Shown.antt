@@ -6,12 +6,13 @@ use Rattle.affine_prover.specs.declared.answer.Verdict.{Verdict}
 use Rattle.affine_prover.specs.declared.answer.Verdict.TheVariants.{Shown, Open, TooMany, TooWide}
 use Rattle.affine_forms.specs.Affine.{Affine}
 use Rattle.affine_prover.specs.Elimination.{variable_eliminated, stage, stage_of, verdict_on_rows, Stage}
-use Rattle.affine_rows.specs.Rows.{is_free, following, is_narrow_following, pairs, normalized, least_at}
+use Rattle.affine_prover.specs.RowSets.Rows.{is_free, following, is_narrow_following, pairs}
+use Rattle.affine_prover.specs.RowSets.Rows.{normalized, least_at}
 use Rattle.affine_prover.specs.Elimination.Stage.{Ended, Rows}
-use Rattle.affine_rows.proofs.Everywhere.{everywhere-both, everywhere-like}
-use Rattle.affine_rows.proofs.Widths.{IsWide, AreWide, least_at-below, normalized-wide}
-use Rattle.affine_rows.proofs.Truth.{Holds, Keeps, normalized-holds}
-use Rattle.affine_rows.proofs.Combining.{HoldsWide, following-holds}
+use Rattle.affine_prover.proofs.OfRowSets.Everywhere.{everywhere-both, everywhere-like}
+use Rattle.affine_prover.proofs.OfRowSets.Widths.{IsWide, AreWide, least_at-below, normalized-wide}
+use Rattle.affine_prover.proofs.OfRowSets.Truth.{Holds, Keeps, normalized-holds}
+use Rattle.affine_prover.proofs.OfRowSets.Combining.{HoldsWide, following-holds}
 
 -- what a verdict claims where integers meet the rows: not Shown
 abbrev pub IsRight : Verdict → Type 0

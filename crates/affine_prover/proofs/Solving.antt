@@ -6,12 +6,16 @@ use Rattle.std.proofs.lemmas.List.Elements.{All-from_recursion, recursion_from_A
 use Rattle.affine_prover.specs.declared.answer.Verdict.{Verdict}
 use Rattle.affine_prover.specs.declared.answer.Verdict.TheVariants.{Open, TooWide}
 use Rattle.affine_forms.specs.Affine.{Affine}
-use Rattle.affine_rows.specs.Shapes.{AreWide}
+use Rattle.affine_prover.specs.RowSets.Shapes.{AreWide}
 use Rattle.affine_prover.specs.Elimination.{put_in, round_of, round_on, round, verdict_on, verdict_on_rows, Round}
-use Rattle.affine_rows.specs.Rows.{is_constant, is_impossible, tightened, has_unit, unit_place, substituted, is_narrow_substituted, negated, reduced}
+use Rattle.affine_prover.specs.RowSets.Rows.{is_constant, is_impossible, tightened, has_unit}
+use Rattle.affine_prover.specs.RowSets.Rows.{unit_place, substituted, is_narrow_substituted}
+use Rattle.affine_prover.specs.RowSets.Rows.{negated, reduced}
 use Rattle.affine_prover.specs.Elimination.Round.{Finished, Solved, Unsolved}
-use Rattle.affine_rows.proofs.Everywhere.{everywhere-append, everywhere-map, everywhere-flat_map, everywhere-filter, everywhere-like}
-use Rattle.affine_rows.proofs.Widths.{IsWide, tightened-wide}
+use Rattle.affine_prover.proofs.OfRowSets.Everywhere.{everywhere-append, everywhere-map}
+use Rattle.affine_prover.proofs.OfRowSets.Everywhere.{everywhere-flat_map, everywhere-filter}
+use Rattle.affine_prover.proofs.OfRowSets.Everywhere.{everywhere-like}
+use Rattle.affine_prover.proofs.OfRowSets.Widths.{IsWide, tightened-wide}
 use Rattle.affine_prover.proofs.Meeting.{substituted-wide, everywhere-remove, found-is}
 
 abbrev pub RoundWide : ℕ → Round → Type 0

@@ -9,13 +9,20 @@ use Rattle.std.proofs.lemmas.List.Elements.{All-from_recursion, recursion_from_A
 use Rattle.affine_prover.specs.declared.answer.Verdict.{Verdict}
 use Rattle.affine_prover.specs.declared.answer.Verdict.TheVariants.{Shown, Open, TooMany, TooWide}
 use Rattle.affine_forms.specs.Affine.{Affine}
-use Rattle.affine_rows.specs.Shapes.{AreWide}
+use Rattle.affine_prover.specs.RowSets.Shapes.{AreWide}
 use Rattle.affine_prover.specs.Elimination.{variable_eliminated, stage, stage_of, verdict_on_rows, Stage}
-use Rattle.affine_rows.specs.Rows.{is_free, is_lower_bound, is_upper_bound, pairs, least_at, normalized, combination, is_narrow_combination, without, following, is_narrow_following, lower_factor, upper_factor, weighed_lists}
+use Rattle.affine_prover.specs.RowSets.Rows.{is_free, is_lower_bound, is_upper_bound, pairs}
+use Rattle.affine_prover.specs.RowSets.Rows.{least_at, normalized, combination}
+use Rattle.affine_prover.specs.RowSets.Rows.{is_narrow_combination, without, following}
+use Rattle.affine_prover.specs.RowSets.Rows.{is_narrow_following, lower_factor, upper_factor}
+use Rattle.affine_prover.specs.RowSets.Rows.{weighed_lists}
 use Rattle.affine_prover.specs.Elimination.Stage.{Ended, Rows}
-use Rattle.affine_rows.proofs.Everywhere.{everywhere-append, everywhere-map, everywhere-flat_map, everywhere-filter, everywhere-like}
-use Rattle.affine_rows.proofs.Widths as widths
-use Rattle.affine_rows.proofs.Widths.{IsWide, normalized-wide, least_at-below, length-weighed_lists, length-remove}
+use Rattle.affine_prover.proofs.OfRowSets.Everywhere.{everywhere-append, everywhere-map}
+use Rattle.affine_prover.proofs.OfRowSets.Everywhere.{everywhere-flat_map, everywhere-filter}
+use Rattle.affine_prover.proofs.OfRowSets.Everywhere.{everywhere-like}
+use Rattle.affine_prover.proofs.OfRowSets.Widths as widths
+use Rattle.affine_prover.proofs.OfRowSets.Widths.{IsWide, normalized-wide, least_at-below}
+use Rattle.affine_prover.proofs.OfRowSets.Widths.{length-weighed_lists, length-remove}
 
 -- ---- the parts of a stage
 pub stage-none : (n : ℕ) (rows : List Affine) → None ≡ normalized rows → Ended Shown ≡ stage n rows

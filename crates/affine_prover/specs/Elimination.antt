@@ -9,16 +9,21 @@ use Rattle.std.specs.List.{list_all, count_by, flat_map, find, remove, position_
 use Rattle.affine_forms.specs.Affine.{Affine, Constraints}
 use Rattle.affine_prover.specs.declared.answer.Verdict.{Verdict}
 use Rattle.affine_prover.specs.declared.answer.Verdict.TheVariants.{Shown, Open, TooMany, TooWide}
-pub use Rattle.affine_rows.specs.Rows.{gcd_within, gcd_of, coefficient, is_constant, weighed}
-pub use Rattle.affine_rows.specs.Rows.{is_narrow_weighed, weighed_lists, are_narrow_weighed}
-pub use Rattle.affine_rows.specs.Rows.{combined, is_narrow_combined, without}
-pub use Rattle.affine_rows.specs.Rows.{tightened, same_list, joined, merged, is_false}
-pub use Rattle.affine_rows.specs.Rows.{is_lower_bound, is_upper_bound, is_free, pairs, least_at}
-pub use Rattle.affine_rows.specs.Rows.{lower_factor, upper_factor, combination}
-pub use Rattle.affine_rows.specs.Rows.{is_narrow_combination, following, is_narrow_following}
-unfoldable pub use Rattle.affine_rows.specs.Rows.{gcd, normalized, reduced}
-pub use Rattle.affine_rows.specs.Rows.{is_impossible, is_unit, has_unit, unit_place, solving_factor}
-pub use Rattle.affine_rows.specs.Rows.{substituted, is_narrow_substituted, negated}
+pub use Rattle.affine_prover.specs.RowSets.Rows.{gcd_within, gcd_of, coefficient, is_constant}
+pub use Rattle.affine_prover.specs.RowSets.Rows.{weighed}
+pub use Rattle.affine_prover.specs.RowSets.Rows.{is_narrow_weighed, weighed_lists}
+pub use Rattle.affine_prover.specs.RowSets.Rows.{are_narrow_weighed}
+pub use Rattle.affine_prover.specs.RowSets.Rows.{combined, is_narrow_combined, without}
+pub use Rattle.affine_prover.specs.RowSets.Rows.{tightened, same_list, joined, merged, is_false}
+pub use Rattle.affine_prover.specs.RowSets.Rows.{is_lower_bound, is_upper_bound, is_free, pairs}
+pub use Rattle.affine_prover.specs.RowSets.Rows.{least_at}
+pub use Rattle.affine_prover.specs.RowSets.Rows.{lower_factor, upper_factor, combination}
+pub use Rattle.affine_prover.specs.RowSets.Rows.{is_narrow_combination, following}
+pub use Rattle.affine_prover.specs.RowSets.Rows.{is_narrow_following}
+unfoldable pub use Rattle.affine_prover.specs.RowSets.Rows.{gcd, normalized, reduced}
+pub use Rattle.affine_prover.specs.RowSets.Rows.{is_impossible, is_unit, has_unit, unit_place}
+pub use Rattle.affine_prover.specs.RowSets.Rows.{solving_factor}
+pub use Rattle.affine_prover.specs.RowSets.Rows.{substituted, is_narrow_substituted, negated}
 
 -- ---- rows: one variable after the other
 

@@ -1,7 +1,7 @@
 -- The law of elimination, the contract of a function.
 use Rattle.std.specs.Prelude.{◌≡◌}
 use Rattle.affine_forms.specs.Affine.{Constraints, HasNoIntegerPoint}
-use Rattle.affine_rows.specs.Shapes.{AreWide}
+use Rattle.affine_prover.specs.RowSets.Shapes.{AreWide}
 use Rattle.affine_prover.specs.Elimination.{elimination}
 use Rattle.affine_prover.specs.declared.answer.Verdict.TheVariants.{Shown}
 

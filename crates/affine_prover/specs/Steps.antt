@@ -1,6 +1,6 @@
 -- What the code's steps say, as stages of the elimination.
 use Rattle.std.specs.Prelude.{◌++◌}
-use Rattle.affine_rows.specs.Settled.{AreSettled}
+use Rattle.affine_prover.specs.RowSets.Settled.{AreSettled}
 use Rattle.affine_prover.specs.declared.eliminate.Step.{Step}
 use Rattle.affine_prover.specs.declared.eliminate.Step.TheVariants as step
 use Rattle.affine_prover.specs.declared.equations.Turn.{Turn}

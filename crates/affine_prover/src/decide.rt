@@ -7,8 +7,8 @@ ghost use Rattle.affine_prover.specs.declared.answer.Verdict.TheVariants.{Shown,
 
 use crate::answer::Verdict;
 use crate::equations::solve;
+use crate::row_sets::dense_rows;
 use affine_forms::System;
-use affine_rows::dense_rows;
 use std::alloc::{AllocError, Global};
 
 /// Says whether the system has an integer point, as far as Fourier-Motzkin elimination tells:

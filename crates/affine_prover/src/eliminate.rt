@@ -1,12 +1,12 @@
 //! One variable is eliminated after the other.
 ghost use Rattle.std.specs.Prelude.{◌≡◌, ◌<◌, IfOk, ◌++◌};
-ghost use Rattle.affine_rows.specs.Shapes.{AreWide};
-ghost use Rattle.affine_rows.specs.Settled.{AreSettled};
+ghost use Rattle.affine_prover.specs.RowSets.Shapes.{AreWide};
+ghost use Rattle.affine_prover.specs.RowSets.Settled.{AreSettled};
 ghost use Rattle.affine_prover.specs.Elimination.{variable_eliminated, stage, verdict_on_rows};
 ghost use Rattle.affine_prover.specs.Steps.{stage_of_step, StepSettled};
 
 use crate::answer::Verdict;
-use affine_rows::{BySign, DenseRow, cheapest, combine_all, normalize, split};
+use crate::row_sets::{BySign, DenseRow, cheapest, combine_all, normalize, split};
 use std::alloc::{AllocError, Global};
 
 /// The most rows that a stage may leave before they are merged.

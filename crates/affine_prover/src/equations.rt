@@ -2,14 +2,14 @@
 ghost use Rattle.std.specs.Prelude.{◌≡◌, IfOk, Some};
 ghost use Rattle.std.specs.List.{position, find};
 ghost use Rattle.std.specs.Option.{option_map};
-ghost use Rattle.affine_rows.specs.Shapes.{AreWide};
-ghost use Rattle.affine_rows.specs.Rows.{is_impossible, has_unit, reduced};
+ghost use Rattle.affine_prover.specs.RowSets.Shapes.{AreWide};
+ghost use Rattle.affine_prover.specs.RowSets.Rows.{is_impossible, has_unit, reduced};
 ghost use Rattle.affine_prover.specs.Elimination.{round, verdict_on, round_of};
 ghost use Rattle.affine_prover.specs.Steps.{round_of_turn};
 
 use crate::answer::Verdict;
 use crate::eliminate::eliminate;
-use affine_rows::{DenseRow, solvable, substitute, two_rows_each};
+use crate::row_sets::{DenseRow, solvable, substitute, two_rows_each};
 use std::alloc::{AllocError, Global};
 
 /// What one round leaves.

@@ -1,4 +1,5 @@
-//! Decides whether a system of linear equations and inequalities over the integers can be met, by Fourier-Motzkin elimination.
+//! Decides whether a system of linear equations and inequalities over the integers can be met, by
+//! Fourier-Motzkin elimination.
 #![tactic(auto)]
 
 mod answer;
@@ -6,6 +7,7 @@ mod decide;
 mod eliminate;
 mod equations;
 pub mod laws;
+mod row_sets;
 
 pub use answer::Verdict;
 pub use decide::verdict;

@@ -49,7 +49,7 @@ use Rattle.buffer_laws.proofs.OfStaging.Replaced.{alike_replaces}
 use Rattle.check_laws.proofs.OfFacts.Binders.{IsApart}
 use Rattle.check_laws.proofs.OfFacts.Truths.{contrary, on_left, on_right}
 use Rattle.cursor_forward.specs.Causes.{OutOfScope}
-use Rattle.tree_rules.specs.Findings.{findings_of_alloc, findings_of_block, scope_behind}
+use Rattle.tree_findings.specs.Findings.{findings_of_alloc, findings_of_block, scope_behind}
 use Rattle.buffer_laws.specs.Buffers.{Buffer, allocation, buffer_of, is_buffer}
 use Rattle.buffer_laws.specs.Lifted.{are_plain}
 use Rattle.buffer_laws.specs.Expanded.{expanded, expanded_buffer, at_point, small, may_expand}

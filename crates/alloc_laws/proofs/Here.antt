@@ -25,11 +25,11 @@ use Rattle.check_laws.proofs.OfFacts.Binders.{IsApart, StepIsApart, apart_there,
 use Rattle.check_laws.proofs.OfFacts.Binders.{split}
 use Rattle.check_laws.proofs.OfFacts.Binders as differ
 use Rattle.check_laws.proofs.OfFacts.Truths.{contrary, on_left, on_right}
-use Rattle.tree_rules.specs.Classes.{both, rule, limit}
-use Rattle.tree_rules.specs.Findings.{findings_of_block, scope_behind, found_in_binder}
-use Rattle.tree_rules.specs.Findings.{findings_of_alloc, found_in_control, findings_of_control}
-use Rattle.tree_rules.specs.Findings.{findings_of_controls}
-use Rattle.tree_rules.specs.Sizes.{is_small_control}
+use Rattle.tree_findings.specs.Classes.{both, rule, limit}
+use Rattle.tree_findings.specs.Findings.{findings_of_block, scope_behind, found_in_binder}
+use Rattle.tree_findings.specs.Findings.{findings_of_alloc, found_in_control, findings_of_control}
+use Rattle.tree_findings.specs.Findings.{findings_of_controls}
+use Rattle.tree_findings.specs.Sizes.{is_small_control}
 use Rattle.buffer_laws.specs.Buffers.{Buffer, allocation, is_buffer}
 use Rattle.buffer_laws.specs.Lifted.{are_plain, with_buffer_in}
 use Rattle.place_laws.specs.Scope.Roots.{own_roots_at}

@@ -9,3 +9,4 @@ pub mod ExpandCarrying
 pub mod Examples
 pub mod OfBind
 pub mod OfStage
+pub mod OfGoes

@@ -1,5 +1,6 @@
 -- The rule that puts an allocation of a loop or branch before the loop or condition is lawful.
 use Rattle.std.proofs.Common.{◌≡◌, inr, ℕ, zero, suc, Bool, true, false, ◌==◌, ◌||◌, not}
+use Rattle.proc_laws.specs.Expression.Passes.{or_one_pass}
 use Rattle.std.proofs.Common.{true≢false}
 use Rattle.std.proofs.Common.{List, length, Option, Some, None, refl, sym, ap, ap₂, ◌∙◌, subst}
 use Rattle.std.proofs.Common.{eqb-true}
@@ -40,7 +41,7 @@ use Rattle.step_rules.proofs.Shapes.{made_of, alone_is}
 use Rattle.loop_laws.proofs.Formed.{free_not_in_scope}
 use Rattle.loop_laws.proofs.Sites.{found_then, found_scope}
 use Rattle.alloc_laws.specs.Lifting.{Inner, inner_of, Lifting, lifting_at, lifting_in, lifting_of}
-use Rattle.alloc_laws.specs.Lifting.{or_one_pass, lifted, lift_rule}
+use Rattle.alloc_laws.specs.Lifting.{lifted, lift_rule}
 use Rattle.alloc_laws.proofs.Here.{is_other, not_bound, top_binds, less_control, less_condition}
 use Rattle.alloc_laws.proofs.Here.{Names, names_of, has_it, has_before, before_lacks}
 use Rattle.alloc_laws.proofs.Here.{AreFormed, alloc_formed}

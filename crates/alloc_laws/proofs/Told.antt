@@ -31,16 +31,19 @@ use Rattle.inplace_laws.specs.Windows.{shifted, joined_coords, to_name, coords_a
 use Rattle.inplace_laws.specs.Windows.{in_controls, in_condition, in_datum, in_coords, in_argument}
 use Rattle.inplace_laws.specs.Windows.{in_arguments, in_statement, in_block}
 use Rattle.check_laws.proofs.OfFacts.Truths.{contrary}
-use Rattle.tree_rules.specs.declared.findings.Findings.{Findings}
-use Rattle.tree_rules.specs.Classes.{fine, both, rule, limit, use_of, all_of}
-use Rattle.tree_rules.specs.Findings.{found_in_control, findings_of_control, findings_of_controls}
-use Rattle.tree_rules.specs.Findings.{found_in_condition, findings_of_condition, findings_of_access}
-use Rattle.tree_rules.specs.Findings.{found_in_datum, findings_of_coord, findings_of_window}
-use Rattle.tree_rules.specs.Findings.{findings_of_kind, findings_of_argument, findings_of_arguments}
-use Rattle.tree_rules.specs.Findings.{findings_of_call, findings_of_write, findings_of_block}
-use Rattle.tree_rules.specs.Findings.{findings_of_statement}
-use Rattle.tree_rules.specs.Findings.{scope_behind, with_view, found_in_binder}
-use Rattle.tree_rules.specs.Sizes.{is_small_control, is_small_condition}
+use Rattle.tree_findings.specs.declared.findings.Findings.{Findings}
+use Rattle.tree_findings.specs.Classes.{fine, both, rule, limit, use_of, all_of}
+use Rattle.tree_findings.specs.Findings.{found_in_control, findings_of_control}
+use Rattle.tree_findings.specs.Findings.{findings_of_controls}
+use Rattle.tree_findings.specs.Findings.{found_in_condition, findings_of_condition}
+use Rattle.tree_findings.specs.Findings.{findings_of_access}
+use Rattle.tree_findings.specs.Findings.{found_in_datum, findings_of_coord, findings_of_window}
+use Rattle.tree_findings.specs.Findings.{findings_of_kind, findings_of_argument}
+use Rattle.tree_findings.specs.Findings.{findings_of_arguments}
+use Rattle.tree_findings.specs.Findings.{findings_of_call, findings_of_write, findings_of_block}
+use Rattle.tree_findings.specs.Findings.{findings_of_statement}
+use Rattle.tree_findings.specs.Findings.{scope_behind, with_view, found_in_binder}
+use Rattle.tree_findings.specs.Sizes.{is_small_control, is_small_condition}
 use Rattle.step_rules.proofs.Formed.{HasShape, shape_parts}
 use Rattle.loop_laws.proofs.Formed.{formed}
 use Rattle.alloc_laws.proofs.Outside as point

@@ -4,3 +4,4 @@ pub mod Outside
 pub mod Expanding
 pub mod Bind
 pub mod Stage
+pub mod Goes

@@ -1,5 +1,6 @@
 -- The rule that puts an allocation of a loop or branch before the loop or condition.
 use Rattle.std.specs.Prelude.{ℕ, suc, List, [], ◌∷◌, length, Option, Some, None}
+use Rattle.proc_laws.specs.Expression.Passes.{or_one_pass}
 use Rattle.std.specs.Prelude.{option_map, option_and_then}
 use Rattle.exo_tree.specs.Tree.{Statement, Assign, Reduce, Config, Pass, If, For, Alloc, View, Call}
 use Rattle.exo_tree.specs.Tree.{Block, end, next, joined, statements}
@@ -56,10 +57,6 @@ abbrev pub lifting_of : Branch → ℕ → Block → Option Lifting
 lifting_of branch k b = option_and_then (lifting_in branch k) (alone_in b)
 
 -- ---- the result
-
-abbrev pub or_one_pass : Block → Block
-or_one_pass end = next Pass end
-or_one_pass (next a b) = next a b
 
 abbrev pub lifted : Lifting → Block
 lifted l =

@@ -3,5 +3,6 @@
 #![tactic(auto)]
 
 pub mod bind;
+mod goes;
 pub mod laws;
 pub mod stage;

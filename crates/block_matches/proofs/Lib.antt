@@ -9,3 +9,4 @@ pub mod Named
 pub mod Outcomes
 pub mod Tables
 pub mod Trials
+pub mod OfPairs

@@ -10,3 +10,4 @@ pub mod PlainSpot
 pub mod PlainUse
 pub mod Trying
 pub mod Walks
+pub mod Pairs

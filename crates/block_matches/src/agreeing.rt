@@ -7,8 +7,8 @@ ghost use Rattle.tree_uses.specs.Outcomes.{ComesIf};
 
 use affine_forms::{FormError, Reader};
 use exo_tree::{Cond, Ctrl};
-use simple_forms::keeps_rules;
 use std::alloc::Global;
+use tree_uses::simple::keeps_rules;
 
 /// Whether two expressions keep the rules and have equal normal forms. `WideNumber` exactly where
 /// both keep the rules and one of the forms has a number past 2^62 in size.

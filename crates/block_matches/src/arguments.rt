@@ -10,8 +10,8 @@ ghost use Rattle.match_laws.specs.Windows as plain;
 ghost use Rattle.match_laws.specs.Widths.{is_short, offsets_are_short, ends_are_short};
 ghost use Rattle.match_laws.specs.Widths.{lists_are_short, lists_are_short_among};
 ghost use Rattle.match_laws.specs.Widths.{buffer_is_short};
-ghost use Rattle.block_pairs.specs.Held.{ids_in, names_in};
-ghost use Rattle.block_pairs.specs.PlainBuffer.{plain_buffer};
+ghost use Rattle.block_matches.specs.Pairs.Held.{ids_in, names_in};
+ghost use Rattle.block_matches.specs.Pairs.PlainBuffer.{plain_buffer};
 ghost use Rattle.block_matches.specs.PlainMoving.{plain_moving};
 ghost use Rattle.block_matches.specs.PlainSpot.{plain_spot};
 ghost use Rattle.block_matches.specs.PlainUse.{plain_use};
@@ -20,14 +20,14 @@ ghost use Rattle.tree_uses.specs.Outcomes.{ComesIf};
 
 use crate::agreeing::agree;
 use crate::moving::Moving;
+use crate::pairs::{Buffer, IdSet, NameTable};
 use crate::spots::Spot;
 use crate::uses::Use;
 use affine_forms::{FormError, Reader};
-use block_pairs::{Buffer, IdSet, NameTable};
 use exo_tree::{Arg, Coord, Coords, Ctrl, Id, Indices};
-use simple_forms::simpler;
 use std::alloc::{AllocError, Global};
-use tree_mentions::Names;
+use tree_uses::mentions::Names;
+use tree_uses::simple::simpler;
 
 /// What windows of a buffer parameter are made by: what the block reads, the callee's expressions
 /// in the block's names, the block's own names, and what is known of the names of its procedure.

@@ -5,15 +5,15 @@ ghost use Rattle.match_laws.specs.Matched as plain;
 ghost use Rattle.match_laws.specs.Moved.{moved, moved_condition};
 ghost use Rattle.match_laws.specs.Widths.{short_if_known, condition_short_if_known, pair_is_short};
 ghost use Rattle.match_laws.specs.Widths.{walk_is_short};
-ghost use Rattle.block_pairs.specs.PlainPair.{plain_pair};
+ghost use Rattle.block_matches.specs.Pairs.PlainPair.{plain_pair};
 ghost use Rattle.block_matches.specs.PlainMoving.{plain_moving};
 ghost use Rattle.tree_uses.specs.Outcomes.{ComesIf};
 
 use crate::agreeing::{agree, conditions_agree};
 use crate::moving::Moving;
+use crate::pairs::Pair;
 use crate::walked::path_of;
 use affine_forms::{FormError, Reader};
-use block_pairs::Pair;
 use exo_tree::{Cond, Ctrl, Path};
 use std::alloc::Global;
 

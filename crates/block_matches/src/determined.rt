@@ -9,14 +9,14 @@ ghost use Rattle.inplace_laws.specs.Inline.{is_param};
 ghost use Rattle.match_laws.specs.Names.{Names};
 ghost use Rattle.match_laws.specs.Matched as plain;
 ghost use Rattle.match_laws.specs.Matched.{argument_if, argument_in, given_to, first_undetermined};
-ghost use Rattle.block_pairs.specs.PlainPair.{plain_pair};
+ghost use Rattle.block_matches.specs.Pairs.PlainPair.{plain_pair};
 ghost use Rattle.block_matches.specs.Held.{determined_in};
 ghost use Rattle.block_matches.specs.Noted.{earlier, entry, given_by, is_open};
 ghost use Rattle.block_matches.specs.PlainGiven.{plain_given};
 
 use crate::given::{Given, known_by};
+use crate::pairs::Pair;
 use crate::uses::uses_of;
-use block_pairs::Pair;
 use exo_tree::{Arg, Args, Id, Param, ParamKind, Proc};
 use indexmap::IndexMap;
 use std::alloc::{AllocError, Global};

@@ -2,7 +2,7 @@
 ghost use Rattle.std.specs.Prelude.{◌≡◌, ◌&&◌, ◌||◌, not, map, option_map, IfOk};
 ghost use Rattle.match_laws.specs.Windows as plain;
 ghost use Rattle.match_laws.specs.Widths.{offsets_are_short, uses_are_short, list_is_short};
-ghost use Rattle.block_pairs.specs.Held.{ids_in};
+ghost use Rattle.block_matches.specs.Pairs.Held.{ids_in};
 ghost use Rattle.block_matches.specs.PlainMoving.{plain_moving};
 ghost use Rattle.block_matches.specs.PlainSpot.{plain_spot};
 ghost use Rattle.block_matches.specs.PlainUse.{plain_use};

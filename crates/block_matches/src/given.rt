@@ -4,10 +4,10 @@ ghost use Rattle.exo_tree.specs.PlainArgument.{argument};
 ghost use Rattle.exo_tree.specs.PlainProcedure.{procedure};
 ghost use Rattle.inplace_laws.specs.Inline.{is_param};
 ghost use Rattle.match_laws.specs.Matched.{known_by};
-ghost use Rattle.block_pairs.specs.PlainPair.{plain_pair};
+ghost use Rattle.block_matches.specs.Pairs.PlainPair.{plain_pair};
 ghost use Rattle.block_matches.specs.PlainGiven.{plain_given, plain_known};
 
-use block_pairs::{Pair, is_param};
+use crate::pairs::{Pair, is_param};
 use exo_tree::{Arg, Cond, Coords, Ctrl, Id, Proc};
 
 /// An argument that stands elsewhere.

@@ -11,6 +11,7 @@ mod fitting;
 mod given;
 mod matched;
 mod moving;
+pub mod pairs;
 mod partners;
 mod spots;
 mod uses;

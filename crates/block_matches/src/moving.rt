@@ -7,8 +7,8 @@ ghost use Rattle.block_matches.specs.PlainMoving.{plain_moving};
 
 use crate::determined::Determined;
 use crate::given::Given;
+use crate::pairs::is_param;
 use crate::partners::Partners;
-use block_pairs::is_param;
 use exo_tree::{Cond, Ctrl, Id, Proc};
 use std::alloc::{AllocError, Global};
 use tree_uses::{Given as Stands, Puts, Putting, put_control, used_condition};

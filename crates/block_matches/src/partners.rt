@@ -1,11 +1,11 @@
 //! Binders that correspond.
 ghost use Rattle.std.specs.Prelude.{◌≡◌, None, map, option_map, IfOk, OnOk};
 ghost use Rattle.match_laws.specs.Matched.{partner, partner_if};
-ghost use Rattle.block_pairs.specs.PlainPair.{plain_pair};
+ghost use Rattle.block_matches.specs.Pairs.PlainPair.{plain_pair};
 ghost use Rattle.block_matches.specs.Held.{partners_in};
 ghost use Rattle.block_matches.specs.Noted.{earlier, entry};
 
-use block_pairs::Pair;
+use crate::pairs::Pair;
 use exo_tree::Id;
 use indexmap::IndexMap;
 use std::alloc::{AllocError, Global};

@@ -7,7 +7,7 @@ ghost use Rattle.match_laws.specs.Moved.{both, moved};
 ghost use Rattle.match_laws.specs.Windows as plain;
 ghost use Rattle.match_laws.specs.Widths.{short_if_known, extents_are_short, spots_are_short};
 ghost use Rattle.match_laws.specs.Widths.{offsets_are_short};
-ghost use Rattle.block_pairs.specs.Held.{ids_in};
+ghost use Rattle.block_matches.specs.Pairs.Held.{ids_in};
 ghost use Rattle.block_matches.specs.PlainMoving.{plain_moving};
 ghost use Rattle.block_matches.specs.PlainSpot.{plain_spot};
 ghost use Rattle.block_matches.specs.Trying.{agrees_with, no_spots};
@@ -15,13 +15,13 @@ ghost use Rattle.tree_uses.specs.Outcomes.{ComesIf};
 
 use crate::agreeing::agree;
 use crate::arguments::Windows;
+use crate::pairs::difference;
 use crate::uses::Use;
 use affine_forms::{FormError, Reader};
-use block_pairs::difference;
 use exo_tree::{Coord, Ctrl};
-use simple_forms::simpler;
 use std::alloc::{AllocError, Global};
-use tree_mentions::in_control;
+use tree_uses::mentions::in_control;
+use tree_uses::simple::simpler;
 
 /// At a listed dimension the difference of the two lower ends, elsewhere the point that stands
 /// there.

@@ -2,10 +2,10 @@
 ghost use Rattle.std.specs.Prelude.{◌≡◌, map, option_map, IfOk};
 ghost use Rattle.std.specs.Option.{option_to_list};
 ghost use Rattle.match_laws.specs.Windows.{use_in, uses_of};
-ghost use Rattle.block_pairs.specs.PlainPair.{plain_pair};
+ghost use Rattle.block_matches.specs.Pairs.PlainPair.{plain_pair};
 ghost use Rattle.block_matches.specs.PlainUse.{plain_use};
 
-use block_pairs::Pair;
+use crate::pairs::Pair;
 use exo_tree::{Coords, Id, Path};
 use std::alloc::{AllocError, Global};
 

@@ -4,18 +4,18 @@ ghost use Rattle.exo_tree.specs.PlainProcedure.{procedure};
 ghost use Rattle.inplace_laws.specs.Inline.{is_param};
 ghost use Rattle.match_laws.specs.Matched.{walked};
 ghost use Rattle.match_laws.specs.Matched as plain;
-ghost use Rattle.block_pairs.specs.Held.{ids_in};
-ghost use Rattle.block_pairs.specs.PlainPair.{plain_pair};
+ghost use Rattle.block_matches.specs.Pairs.Held.{ids_in};
+ghost use Rattle.block_matches.specs.Pairs.PlainPair.{plain_pair};
 ghost use Rattle.block_matches.specs.Held.{partners_in};
 ghost use Rattle.block_matches.specs.Kept.{kept, cut_at};
 ghost use Rattle.block_matches.specs.PlainGiven.{plain_given, plain_known};
 
 use crate::given::{Given, Known, known_by};
+use crate::pairs::{IdSet, Pair};
 use crate::partners::Partners;
-use block_pairs::{IdSet, Pair};
 use exo_tree::{Path, Proc};
 use std::alloc::{AllocError, Global};
-use tree_mentions::{Names, in_condition, in_control};
+use tree_uses::mentions::{Names, in_condition, in_control};
 
 /// Whether an argument holds a name that the block binds.
 fn holds_bound(bound: &IdSet, argument: Given<'_>) -> bool

@@ -4,7 +4,7 @@ use Rattle.std.specs.List.{list_all, flat_map}
 use Rattle.std.proofs.lemmas.Bool.{and_parts, and_from}
 use Rattle.std.proofs.lemmas.List.Folds.{list_all-append, list_all-map}
 use Rattle.exo_tree.specs.Tree.{Kind, Size, Index, Truth, Stride, Control, Eq, Datum, Const, Read, Negated, Relu, Plus, Minus, Times, Select, Coord, At, Span, Argument, ControlArg, ConditionArg, Whole, Window, Statement, Assign, Reduce, Config, Pass, If, For, Alloc, View, Call, Block, end, next, Param, ParamKind, ControlParam, TensorParam, WindowParam, Procedure, Program}
-use Rattle.exo_tree.specs.Places.{Branch, Main, Else, Path}
+use Rattle.exo_tree.specs.Places.{Branch, Main, Else, Path, path_below}
 use Rattle.exo_meaning.specs.Calls.{Callee}
 use Rattle.exo_meaning.specs.Run.{roots_after}
 use Rattle.exo_meaning.specs.Units.{Scope, ControlName, plainly, with_fields, with_strides, sort_in, has_rank, is_control, are_controls, is_condition, is_access, is_datum, is_window, is_write, are_for, share_nothing_written, is_call, is_new, is_empty, is_short, is_rank, with_name, scope_after, spans, is_block, is_statement, field_kind}
@@ -16,7 +16,7 @@ use Rattle.check_claims.specs.Pairs.{flat_zip}
 use Rattle.check_claims.specs.Claim.{Claim, Apart, Placed}
 use Rattle.check_claims.specs.Extents.{Extents, with_extents, span_extent, span_extents, dims_of, with_params, with_block, with_statement}
 use Rattle.check_claims.specs.Arguments.{control_under}
-use Rattle.check_claims.specs.Claims.{asserted, as_shown, at_least_one, one_index, index_claims, coord_claims, window_claims, read_claims, store_claims, argument_window, given_claims, argument_size, argument_extents, equal_extents, passed_extents, call_claims, write_claims, own_claims, placed_at, into, block_claims, inner_claims, param_claims}
+use Rattle.check_claims.specs.Claims.{asserted, as_shown, at_least_one, one_index, index_claims, coord_claims, window_claims, read_claims, store_claims, argument_window, given_claims, argument_size, argument_extents, equal_extents, passed_extents, call_claims, write_claims, own_claims, placed_at, block_claims, inner_claims, param_claims}
 use Rattle.check_claims.specs.Claims.{written_by, must_be_apart, pairs_with, pair_claims}
 use Rattle.bounds_check.specs.Laws.{claim_keeps_rules}
 use Rattle.bounds_check.proofs.Affine.{coord_keeps_rules, argument_keeps_rules, dims_keep_rules, all_pass, all_affine, window_affine, given_affine, arguments_affine}
@@ -257,7 +257,7 @@ module _ (w : Words) where
           block_affine outer branch n scope root end h = refl
           block_affine outer branch n scope root (next a b) h =
               let p = and_parts (is_statement fields memories callees scope root a) (is_block fields memories callees (scope_after a scope) (roots_after a root) b) h in
-              let here = into outer branch n in
+              let here = path_below outer branch n in
               let inner = inner_claims w u extents roots here a in
               let rest = block_claims w u extents roots outer branch (suc n) b in
               let own = placed_at here (own_claims w u extents roots a) in

@@ -19,8 +19,8 @@ use Rattle.affine_systems.specs.declared.obligation.Obligation.{Obligation}
 use Rattle.check_claims.specs.Claim.{Claim, Is, Apart, Placed}
 use Rattle.check_facts.specs.Contexts.{context_of, context_fits, facts_of}
 use Rattle.bounds_check.specs.Errors.{error_of}
-use Rattle.exo_conflicts.specs.Outcomes.{IsListed}
-use Rattle.exo_conflicts.specs.declared.standing.Standing.{Standing}
+use Rattle.effect_conflicts.specs.Outcomes.{IsListed}
+use Rattle.effect_conflicts.specs.declared.standing.Standing.{Standing}
 use Rattle.exo_effects.specs.Accesses.{Access, access_of}
 use Rattle.exo_effects.specs.Conflicts as conflict
 use Rattle.exo_effects.specs.Conflicts.{Listing, Lists, Refuses, clashing, past_these, pair_fault, owed_behind, conflicts_of}

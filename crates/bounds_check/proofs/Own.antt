@@ -9,13 +9,13 @@ use Rattle.exo_tree.specs.Tree.{Statement, If, For}
 use Rattle.exo_tree.specs.Tree.{Binder, Control, Condition, Block, end, next, Procedure, Program}
 use Rattle.exo_tree.specs.Context.{After, InLoop, InThen, InElse}
 use Rattle.exo_tree.specs.Places as place
-use Rattle.exo_tree.specs.Places.{Branch, Main, Else, Path, Opened, opened_in, first_of, statement_at}
+use Rattle.exo_tree.specs.Places.{Branch, Main, Else, Path, Opened, opened_in, first_of, statement_at, path_below}
 use Rattle.exo_meaning.specs.Units.{IsUnit}
 use Rattle.affine_places.specs.Roots.{Roots, roots_of}
 use Rattle.text_show.specs.Words.{Words, words_of}
 use Rattle.check_claims.specs.Claim.{Placed}
 use Rattle.check_claims.specs.Extents.{Extents, extents_of}
-use Rattle.check_claims.specs.Claims.{own_claims, placed_at, into, block_claims, inner_claims}
+use Rattle.check_claims.specs.Claims.{own_claims, placed_at, block_claims, inner_claims}
 use Rattle.check_claims.specs.Claims.{param_claims, claims_of, claims_there}
 use Rattle.bounds_check.specs.Laws.{may_be_owed, ClaimsMayBeOwed}
 use Rattle.bounds_check.proofs.Places.{step}
@@ -75,18 +75,18 @@ module _ (w : Words) (u : Program) (extents : Extents) (roots : Roots) (test : P
 
   deeper : (outer : Path) (branch which : Branch) (n j : ℕ) (path : Path) (s : Statement)
       → list_all test (own (outer ++ step branch n ∷ step which j ∷ path) s)
-      ≡ list_all test (own (into outer branch n ++ step which (0 + j) ∷ path) s)
+      ≡ list_all test (own (path_below outer branch n ++ step which (0 + j) ∷ path) s)
   deeper outer branch which n j path s =
       ap (λ q. list_all test (own q s)) (sym (append_assoc outer (step branch n ∷ []) (step which j ∷ path)))
-      ∙ ap (λ m. list_all test (own (into outer branch n ++ step which m ∷ path) s)) (before j)
+      ∙ ap (λ m. list_all test (own (path_below outer branch n ++ step which m ∷ path) s)) (before j)
 
   parts : (outer : Path) (branch : Branch) (n : ℕ) (a : Statement) (b : Block)
       → list_all test (block_claims w u extents roots outer branch n (next a b)) ≡ true
-      → (list_all test (own (into outer branch n) a) ≡ true)
-      × ((list_all test (inner_claims w u extents roots (into outer branch n) a) ≡ true)
+      → (list_all test (own (path_below outer branch n) a) ≡ true)
+      × ((list_all test (inner_claims w u extents roots (path_below outer branch n) a) ≡ true)
       × (list_all test (block_claims w u extents roots outer branch (suc n) b) ≡ true))
   parts outer branch n a b h =
-      let path = into outer branch n in
+      let path = path_below outer branch n in
       let inner = inner_claims w u extents roots path a in
       let rest = block_claims w u extents roots outer branch (suc n) b in
       let first = apart (own path a ++ inner) rest h in
@@ -94,13 +94,13 @@ module _ (w : Words) (u : Program) (extents : Extents) (roots : Roots) (test : P
       (both.0, (both.1, first.1))
 
   two : (outer : Path) (branch : Branch) (n : ℕ) (x y : Block)
-      → list_all test (block_claims w u extents roots (into outer branch n) Main 0 x
-      ++ block_claims w u extents roots (into outer branch n) Else 0 y) ≡ true
-      → (list_all test (block_claims w u extents roots (into outer branch n) Main 0 x) ≡ true)
-      × (list_all test (block_claims w u extents roots (into outer branch n) Else 0 y) ≡ true)
+      → list_all test (block_claims w u extents roots (path_below outer branch n) Main 0 x
+      ++ block_claims w u extents roots (path_below outer branch n) Else 0 y) ≡ true
+      → (list_all test (block_claims w u extents roots (path_below outer branch n) Main 0 x) ≡ true)
+      × (list_all test (block_claims w u extents roots (path_below outer branch n) Else 0 y) ≡ true)
   two outer branch n x y h =
-      apart (block_claims w u extents roots (into outer branch n) Main 0 x)
-      (block_claims w u extents roots (into outer branch n) Else 0 y) h
+      apart (block_claims w u extents roots (path_below outer branch n) Main 0 x)
+      (block_claims w u extents roots (path_below outer branch n) Else 0 y) h
 
   mutual
     of_block : (outer : Path) (branch : Branch) (n : ℕ) (b : Block)
@@ -114,7 +114,7 @@ module _ (w : Words) (u : Program) (extents : Extents) (roots : Roots) (test : P
     of_block outer branch n end h (suc j) (t ∷ path) s e = none_some e
     of_block outer branch n (next a b) h zero [] s e =
         ap (λ m. list_all test (own (outer ++ step branch m ∷ []) s)) (sym (nothing n))
-        ∙ ap (λ x. list_all test (own (into outer branch n) x)) (sym (some_is a s e))
+        ∙ ap (λ x. list_all test (own (path_below outer branch n) x)) (sym (some_is a s e))
         ∙ (parts outer branch n a b h).0
     of_block outer branch n (next a b) h zero (t ∷ path) s e =
         ap (λ m. list_all test (own (outer ++ step branch m ∷ t ∷ path) s)) (sym (nothing n))
@@ -130,21 +130,21 @@ module _ (w : Words) (u : Program) (extents : Extents) (roots : Roots) (test : P
 
     -- in a block of the first statement
     of_inner : (outer : Path) (branch : Branch) (n : ℕ) (a : Statement) (b : Block)
-        → list_all test (inner_claims w u extents roots (into outer branch n) a) ≡ true
+        → list_all test (inner_claims w u extents roots (path_below outer branch n) a) ≡ true
         → (which : Branch) (j : ℕ) (path : Path) (s : Statement)
         → found (place.into which (opened_in 1 (step which j ∷ path)) (next a b)) ≡ Some s
         → list_all test (own (outer ++ step branch n ∷ step which j ∷ path) s) ≡ true
     of_inner outer branch n (For i lo hi x) b h Main j path s e =
         deeper outer branch Main n j path s
-        ∙ of_block (into outer branch n) Main 0 x h j path s
+        ∙ of_block (path_below outer branch n) Main 0 x h j path s
         (sym (found_in (in_loop i lo hi b) (λ o. refl) (opened_in 1 (step Main j ∷ path) x)) ∙ e)
     of_inner outer branch n (If c x y) b h Main j path s e =
         deeper outer branch Main n j path s
-        ∙ of_block (into outer branch n) Main 0 x (two outer branch n x y h).0 j path s
+        ∙ of_block (path_below outer branch n) Main 0 x (two outer branch n x y h).0 j path s
         (sym (found_in (in_then c y b) (λ o. refl) (opened_in 1 (step Main j ∷ path) x)) ∙ e)
     of_inner outer branch n (If c x y) b h Else j path s e =
         deeper outer branch Else n j path s
-        ∙ of_block (into outer branch n) Else 0 y (two outer branch n x y h).1 j path s
+        ∙ of_block (path_below outer branch n) Else 0 y (two outer branch n x y h).1 j path s
         (sym (found_in (in_else c x b) (λ o. refl) (opened_in 1 (step Else j ∷ path) y)) ∙ e)
     of_inner outer branch n _ b h Main j path s e = none_some e
     of_inner outer branch n _ b h Else j path s e = none_some e

@@ -4,12 +4,12 @@ use Rattle.std.specs.List.{list_all}
 use Rattle.std.specs.Option.{is_some}
 use Rattle.std.proofs.lemmas.List.Folds.{list_all-map}
 use Rattle.exo_tree.specs.Tree.{Statement, Assign, Reduce, Config, Pass, If, For, Alloc, View, Call, Block, end, next, Program}
-use Rattle.exo_tree.specs.Places.{Branch, Main, Else, Step, Path, opened_in}
+use Rattle.exo_tree.specs.Places.{Branch, Main, Else, Step, Path, opened_in, path_below}
 use Rattle.affine_places.specs.Roots.{Roots}
 use Rattle.text_show.specs.Words.{Words}
 use Rattle.check_claims.specs.Claim.{Claim, Placed}
 use Rattle.check_claims.specs.Extents.{Extents}
-use Rattle.check_claims.specs.Claims.{own_claims, placed_at, into, block_claims, inner_claims}
+use Rattle.check_claims.specs.Claims.{own_claims, placed_at, block_claims, inner_claims}
 use Rattle.bounds_check.proofs.Affines.{appended}
 
 abbrev pub step : Branch → ℕ → Step
@@ -42,9 +42,9 @@ module _ (w : Words) (u : Program) (extents : Extents) (roots : Roots) (test : P
   -- a block inside the first statement
   inside : (outer : Path) (branch which : Branch) (n : ℕ) (a : Statement) (b inner : Block) → Passes outer branch n (next a b)
       → ((j : ℕ) (path : Path) → is_some (opened_in 1 (step which j ∷ path) inner) ≡ true → is_some (opened_in 1 (step branch 0 ∷ step which j ∷ path) (next a b)) ≡ true)
-      → Passes (into outer branch n) which 0 inner
+      → Passes (path_below outer branch n) which 0 inner
   inside outer branch which n a b inner h k j path e =
-      ap (λ m. test (into outer branch n ++ step which m ∷ path)) (before j)
+      ap (λ m. test (path_below outer branch n ++ step which m ∷ path)) (before j)
       ∙ ap test (append_assoc outer (step branch n ∷ []) (step which j ∷ path) ∙ ap (λ m. outer ++ step branch m ∷ step which j ∷ path) (nothing n))
       ∙ h 0 (step which j ∷ path) (k j path e)
     where
@@ -58,7 +58,7 @@ module _ (w : Words) (u : Program) (extents : Extents) (roots : Roots) (test : P
     pub block_places : (outer : Path) (branch : Branch) (n : ℕ) (b : Block) → Passes outer branch n b → list_all here (block_claims w u extents roots outer branch n b) ≡ true
     block_places outer branch n end h = refl
     block_places outer branch n (next a b) h =
-        let path = into outer branch n in
+        let path = path_below outer branch n in
         let inner = inner_claims w u extents roots path a in
         let rest = block_claims w u extents roots outer branch (suc n) b in
         let own = placed_at path (own_claims w u extents roots a) in
@@ -72,17 +72,17 @@ module _ (w : Words) (u : Program) (extents : Extents) (roots : Roots) (test : P
         further : (n j : ℕ) → suc n + j ≡ n + suc j
         further n j = omega arith
 
-    inner_places : (outer : Path) (branch : Branch) (n : ℕ) (a : Statement) (b : Block) → Passes outer branch n (next a b) → list_all here (inner_claims w u extents roots (into outer branch n) a) ≡ true
+    inner_places : (outer : Path) (branch : Branch) (n : ℕ) (a : Statement) (b : Block) → Passes outer branch n (next a b) → list_all here (inner_claims w u extents roots (path_below outer branch n) a) ≡ true
     inner_places outer branch n (Assign x is e) b h = refl
     inner_places outer branch n (Reduce x is e) b h = refl
     inner_places outer branch n (Config f v) b h = refl
     inner_places outer branch n Pass b h = refl
     inner_places outer branch n (If c x y) b h =
-        let path = into outer branch n in
+        let path = path_below outer branch n in
         appended here (block_claims w u extents roots path Main 0 x) (block_claims w u extents roots path Else 0 y)
         (block_places path Main 0 x (inside outer branch Main n (If c x y) b x h (λ j path e. still_some _ _ e)))
         (block_places path Else 0 y (inside outer branch Else n (If c x y) b y h (λ j path e. still_some _ _ e)))
-    inner_places outer branch n (For i lo hi x) b h = block_places (into outer branch n) Main 0 x (inside outer branch Main n (For i lo hi x) b x h (λ j path e. still_some _ _ e))
+    inner_places outer branch n (For i lo hi x) b h = block_places (path_below outer branch n) Main 0 x (inside outer branch Main n (For i lo hi x) b x h (λ j path e. still_some _ _ e))
     inner_places outer branch n (Alloc x cell dims memory) b h = refl
     inner_places outer branch n (View v x coords) b h = refl
     inner_places outer branch n (Call k args) b h = refl

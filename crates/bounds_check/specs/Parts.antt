@@ -1,6 +1,7 @@
 -- What is known of a procedure's obligations that are listed in parts.
-use Rattle.std.specs.Prelude.{◌≡◌, ◌<◌, ◌+◌, nat_lt, false, ◌++◌, ℕ, List, [], map, take, length}
-use Rattle.std.specs.Prelude.{Option, Some, None, Vec, Result, Ok, Err, slice_get}
+use Rattle.std.specs.Prelude.{◌≡◌, ◌<◌, ◌+◌, ◌⊎◌, nat_lt, false, ◌++◌, ℕ, List, [], map, take}
+use Rattle.std.specs.Prelude.{length}
+use Rattle.std.specs.Prelude.{⊤, Option, Some, None, Vec, Result, Ok, Err, slice_get}
 use Rattle.exo_tree.specs.Tree.{Procedure, Program}
 use Rattle.exo_tree.specs.PlainProcedure.{procedure}
 use Rattle.exo_tree.specs.PlainUnit.{program}
@@ -12,6 +13,7 @@ use Rattle.exo_modes.specs.Seen.{table_says}
 use Rattle.affine_places.specs.Roots.{roots_of}
 use Rattle.affine_places.specs.Seen.{roots_in}
 use Rattle.affine_systems.specs.Amounts.{IsAmount}
+use Rattle.affine_systems.specs.Limits.{are_within}
 use Rattle.affine_systems.specs.Outcomes.{Owed, plain_obligation}
 use Rattle.affine_systems.specs.declared.obligation.Obligation.{Obligation}
 use Rattle.check_claims.specs.Claim.{Placed}
@@ -20,6 +22,7 @@ use Rattle.check_claims.specs.Sources.{AreSources}
 use Rattle.bounds_check.specs.Obligations.{owed_for_all, obligations_of, first_fault, list_fault}
 use Rattle.bounds_check.specs.Outcomes.{IsRefusal}
 use Rattle.bounds_check.specs.declared.error.CheckError.{CheckError}
+use Rattle.bounds_check.specs.declared.error.CheckError.TheVariants.{TooManyObligations, Form}
 use Rattle.bounds_check.specs.declared.error.CheckError.TheVariants.{Memory}
 use Rattle.bounds_check.specs.declared.listing.Listing.{Listing}
 use Rattle.bounds_check.specs.declared.listing.Range.{Range}
@@ -92,6 +95,12 @@ BeginsListing (Ok (Some l)) u p =
     IsListed l × (unit_of l ≡ u) × (Some (proc_of l) ≡ p) × (l.next ≡ 0)
 BeginsListing (Err e) u p = e ≡ Memory
 
+-- obligations pass the limits together; want of memory is free
+abbrev pub PassLimits : CheckError → List Owed → Type 0
+PassLimits TooManyObligations os = are_within os ≡ false
+PassLimits (Form e) os = ⊥
+PassLimits Memory os = ⊤
+
 -- ---- places that are listed by themselves
 
 module _ (u : Program) (p : Procedure) where
@@ -111,6 +120,13 @@ module _ (u : Program) (p : Procedure) where
     pub skip : new.skip ≡ old.skip
     pub places : new.places ≡ old.places + count
     pub owed : owed_in new ≡ owed_in old ++ os
+
+  -- so many places behind those of a stripe are refused by themselves, or pass the limits with it
+  abbrev pub StopsAt : CheckError → Stripe → ℕ → Type 0
+  StopsAt e s count =
+      IsRefusal e (first_fault u p [] (claims_between u p (s.skip + s.places) count))
+      ⊎ PassLimits e
+      (owed_in s ++ owed_for_all u p (claims_between u p (s.skip + s.places) count))
 
 -- the places of a stripe come behind what is listed
 pub record HasPassed (s : Stripe) (old new : Listing) : Type 0 where

@@ -14,7 +14,7 @@ use Rattle.affine_places.specs.Seen.{roots_in}
 use Rattle.affine_systems.specs.Outcomes.{Owed}
 use Rattle.check_claims.specs.Claim.{Claim}
 use Rattle.check_facts.specs.Contexts.{may_be_walked, context_of, context_fits, facts_of}
-use Rattle.exo_conflicts.specs.declared.standing.Standing.{Standing}
+use Rattle.effect_conflicts.specs.declared.standing.Standing.{Standing}
 use Rattle.bounds_check.specs.Outcomes.{Owes}
 use Rattle.bounds_check.specs.declared.claims.Site.{Site}
 use Rattle.bounds_check.specs.declared.error.CheckError.{CheckError}

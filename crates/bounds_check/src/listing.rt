@@ -137,7 +137,8 @@ pub struct Listing<'u> {
 }
 
 impl<'u> Listing<'u> {
-    ghost use Rattle.std.specs.Prelude.{◌≡◌, ◌<◌, true, false, IfErr, IfOk, OnOk, length, map};
+    ghost use Rattle.std.specs.Prelude.{◌≡◌, ◌<◌, ◌++◌, [], true, false, IfErr, IfOk, OnOk};
+    ghost use Rattle.std.specs.Prelude.{length, map};
     ghost use Rattle.std.specs.Prelude.{slice_get};
     ghost use Rattle.exo_tree.specs.PlainUnit.{program};
     ghost use Rattle.exo_meaning.specs.Units.{IsUnit};
@@ -148,10 +149,11 @@ impl<'u> Listing<'u> {
     ghost use Rattle.std.specs.Thread.{IsSync};
     ghost use Rattle.check_claims.specs.PlainClaim.{placed};
     ghost use Rattle.check_claims.specs.Places.{claims_between, has_more};
-    ghost use Rattle.bounds_check.specs.Obligations.{list_fault};
+    ghost use Rattle.bounds_check.specs.Obligations.{first_fault, list_fault};
     ghost use Rattle.bounds_check.specs.Parts.{BeginsListing, IsListed, IsRange, IsWhole};
     ghost use Rattle.affine_systems.specs.Outcomes.{plain_obligation};
     ghost use Rattle.bounds_check.specs.Parts.{GoesFurther, HasPassed, IsStripe, PartListed};
+    ghost use Rattle.bounds_check.specs.Parts.{PassLimits, StopsAt, owed_in};
     ghost use Rattle.bounds_check.specs.Parts.{listed_of, proc_of, unit_of};
 
     /// Nothing of the procedure `number` of the unit is listed yet; None where the unit has no such
@@ -221,7 +223,10 @@ impl<'u> Listing<'u> {
     /// What so many places owe, behind so many others; an error where they are refused.
     fn owed_between(&self, alloc: Global, skip: usize, count: usize) -> Result<Range, CheckError>
         requires listed { IsListed self.now }
-        ensures { IfOk result (IsRange (unit_of self.now) (proc_of self.now) skip count) }
+        ensures range { IfOk result (IsRange (unit_of self.now) (proc_of self.now) skip count) }
+        ensures refused { IfErr result (λ e. IsRefusal e
+            (first_fault (unit_of self.now) (proc_of self.now) []
+            (claims_between (unit_of self.now) (proc_of self.now) skip count))) }
     {
         claims_may_be_owed();
         places_have_all_claims();
@@ -360,7 +365,8 @@ impl<'u> Listing<'u> {
         Ok(range.owed)
     }
 
-    /// What the next 512 places of a stripe owe. After an error nothing is said of the stripe.
+    /// What the next 512 places of a stripe owe. An error where they are refused by themselves, or
+    /// pass the limits with those of the stripe; nothing is said of the stripe then.
     pub fn next_of_stripe(
         &self,
         alloc: Global,
@@ -368,8 +374,10 @@ impl<'u> Listing<'u> {
     ) -> Result<Vec<Obligation>, CheckError>
         requires listed { IsListed self.now }
         requires stripe { IsStripe (unit_of self.now) (proc_of self.now) stripe.old }
-        ensures { IfOk result (λ part. GoesFurther (unit_of self.now) (proc_of self.now)
+        ensures part { IfOk result (λ part. GoesFurther (unit_of self.now) (proc_of self.now)
             stripe.old stripe.new 512 (map plain_obligation part.items)) }
+        ensures refused { IfErr result
+            (λ e. StopsAt (unit_of self.now) (proc_of self.now) e stripe.old 512) }
     {
         let at = behind(stripe.skip, stripe.places)?;
         let range = self.owed_between(alloc, at, STRIPE_PLACES)?;
@@ -379,14 +387,16 @@ impl<'u> Listing<'u> {
         Ok(range.owed)
     }
 
-    /// Lists the places of a stripe that begins where this listing is. After an error the listing
-    /// is as it was.
+    /// Lists the places of a stripe that begins where this listing is. `TooManyObligations` where
+    /// they pass the limits with what is listed; after an error the listing is as it was.
     pub fn pass(&mut self, stripe: Stripe) -> Result<(), CheckError>
         requires listed { IsListed self.old }
         requires stripe { IsStripe (unit_of self.old) (proc_of self.old) stripe }
         requires next { stripe.skip ≡ self.old.next }
         requires some { 0 < stripe.places }
         ensures passed { OnOk result (HasPassed stripe self.old self.new) }
+        ensures refused { IfErr result (λ e. PassLimits e
+            (listed_of self.old ++ owed_in (unit_of self.old) (proc_of self.old) stripe)) }
         ensures same { IfErr result (λ _. self.new ≡ self.old) }
     {
         places_have_all_claims();

@@ -14,9 +14,9 @@ pub struct Stripe {
 }
 
 impl Stripe {
-    ghost use Rattle.std.specs.Prelude.{◌≡◌, ◌+◌, ◌<◌, OnOk};
+    ghost use Rattle.std.specs.Prelude.{◌≡◌, ◌+◌, ◌<◌, ◌++◌, OnOk, IfErr};
     ghost use Rattle.exo_tree.specs.Tree.{Procedure, Program};
-    ghost use Rattle.bounds_check.specs.Parts.{GoesFurther, IsStripe, owed_in};
+    ghost use Rattle.bounds_check.specs.Parts.{GoesFurther, IsStripe, PassLimits, owed_in};
 
     /// Nothing is listed yet behind so many places.
     pub fn new(skip: usize) -> Stripe
@@ -39,15 +39,20 @@ impl Stripe {
         self.more
     }
 
-    /// Goes on with the places of a stripe that begins where this one ends.
+    /// Goes on with the places of a stripe that begins where this one ends. `TooManyObligations`
+    /// where both together pass the limits.
     pub fn append(&mut self, other: Stripe) -> Result<(), CheckError>
-        ensures { (u : Program) (p : Procedure)
+        ensures goes { (u : Program) (p : Procedure)
             → IsStripe u p self.old
             → IsStripe u p other
             → other.skip ≡ self.old.skip + self.old.places
             → 0 < other.places
             → OnOk result
             (GoesFurther u p self.old self.new other.places (owed_in u p other)) }
+        ensures refused { (u : Program) (p : Procedure)
+            → IsStripe u p self.old
+            → IsStripe u p other
+            → IfErr result (λ e. PassLimits e (owed_in u p self.old ++ owed_in u p other)) }
     {
         self.amount = self.amount.joined(other.amount)?;
         self.places = behind(self.places, other.places)?;

@@ -14,7 +14,7 @@ use Rattle.alloc_laws.specs.Bind.Binding.{Form, Part, cells_in, part_found, soug
 use Rattle.alloc_laws.specs.Bind.Binding.{storing, one_cell, bound_store}
 use Rattle.step_rules.specs.Rule.{Got, Not, Target, Piece}
 use Rattle.step_rules.specs.Shapes.{alone_in, tried, one_statement}
-use Rattle.step_needs.specs.Outcomes.{RefusedBy}
+use Rattle.step_driver.specs.Needs.Outcomes.{RefusedBy}
 use Rattle.step_driver.specs.Spots.{or_nothing, spot_at}
 use Rattle.step_targets.proofs.Made.{joined_blocks}
 use Rattle.buffer_rewrites.specs.PlainTaken.{Parted, parted_by, Storing, storing_in, with_part}

@@ -6,7 +6,7 @@ ghost use Rattle.alloc_laws.specs.Bind.Binding.{bind_rule};
 ghost use Rattle.alloc_laws.proofs.OfBind.Binding.{bind_is_lawful, bind_is_carrying};
 ghost use Rattle.step_driver.specs.PlainTarget.{target, plain_piece};
 ghost use Rattle.step_driver.specs.Spots.{spot_at};
-ghost use Rattle.step_needs.specs.Outcomes.{Tries};
+ghost use Rattle.step_driver.specs.Needs.Outcomes.{Tries};
 ghost use Rattle.step_rules.specs.Lawful.{scope_here};
 ghost use Rattle.step_rules.specs.Shapes.{tried};
 ghost use Rattle.buffer_rewrites.specs.PlainForm.{plain_form};
@@ -15,11 +15,11 @@ use crate::parts::{Form, take_part};
 use crate::stores::{bound_cell, one_cell, store_at};
 use cursor_forward::{Shifts, StepError};
 use exo_tree::{Block, Id, Name, Path};
-use made_trees::Fresh;
 use std::alloc::{AllocError, Global};
+use step_driver::needs::Need;
 use step_driver::{Piece, Target, Writing};
-use step_needs::Need;
 use step_targets::{OnPiece, Ruled, at_index, one_shift, range_to};
+use tree_edits::made::Fresh;
 
 /// The step that stores a part of the right side of the assignment or reduction at a path in a new
 /// buffer of one cell, and uses the buffer in its place. `WrongShape` where another statement or

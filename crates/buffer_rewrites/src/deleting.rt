@@ -3,17 +3,17 @@ ghost use Rattle.std.specs.Prelude.{refl};
 ghost use Rattle.alloc_laws.specs.Allocations.{delete_rule, deleted_piece};
 ghost use Rattle.alloc_laws.proofs.Memory.{delete_is_lawful, delete_is_carrying};
 ghost use Rattle.step_driver.specs.PlainTarget.{target, plain_piece};
-ghost use Rattle.step_needs.specs.Outcomes.{Tries};
+ghost use Rattle.step_driver.specs.Needs.Outcomes.{Tries};
 
 use crate::allocations::alloc_at;
 use cursor_forward::{Shifts, StepError};
 use exo_tree::{Block, Path};
-use made_trees::Fresh;
 use std::alloc::{AllocError, Global};
+use step_driver::needs::Need;
 use step_driver::{Piece, Target, Writing};
-use step_needs::Need;
 use step_targets::{Alone, OnPiece, Plain};
-use tree_mentions::is_mentioned_after;
+use tree_edits::made::Fresh;
+use tree_uses::mentions::is_mentioned_after;
 
 /// The allocation at a path, where nothing uses it.
 #[tactic(auto, using(crate::proofs::Deleted::no_alloc, crate::proofs::Deleted::nothing_there, crate::proofs::Deleted::still_used, crate::proofs::Deleted::not_used))]

@@ -13,7 +13,7 @@ use crate::found::AllocatedAt;
 use crate::whole::passes_whole;
 use exo_tree::{Block, Coord, Coords, Ctrl, Id, Indices, Path, Stmt};
 use std::alloc::{AllocError, Global};
-use tree_mentions::rest_after;
+use tree_uses::mentions::rest_after;
 use tree_uses::{OneWindow, put};
 
 /// The allocation with which a block begins; None exactly where it begins with none.

@@ -5,17 +5,17 @@ ghost use Rattle.alloc_laws.specs.Expanding.{expand_rule, expanded_piece};
 ghost use Rattle.alloc_laws.proofs.Expanding.{expand_is_lawful};
 ghost use Rattle.alloc_laws.proofs.ExpandCarrying.{expand_is_carrying};
 ghost use Rattle.step_driver.specs.PlainTarget.{target, plain_piece};
-ghost use Rattle.step_needs.specs.Outcomes.{Tries};
+ghost use Rattle.step_driver.specs.Needs.Outcomes.{Tries};
 
 use crate::expandable::{count_to_end, expandable};
 use crate::missing::has_missing;
 use cursor_forward::{Shifts, StepError};
 use exo_tree::{Block, Ctrl, Path};
-use made_trees::Fresh;
 use std::alloc::{AllocError, Global};
+use step_driver::needs::Need;
 use step_driver::{Piece, Target, Writing, stays};
-use step_needs::Need;
 use step_targets::{OnPiece, Ruled};
+use tree_edits::made::Fresh;
 
 /// The step that gives the allocation at a path a new first dimension, of which all its uses take
 /// one point. `WrongShape` where no allocation stands there, or one with dimensions is passed

@@ -8,6 +8,7 @@ ghost use Rattle.exo_tree.specs.PlainPlace.{branch_taken};
 ghost use Rattle.exo_tree.specs.PlainStatement.{statement};
 ghost use Rattle.cursor_forward.specs.Shifts as shifts;
 ghost use Rattle.alloc_laws.specs.Lifting as plain;
+ghost use Rattle.proc_laws.specs.Expression.Passes.{or_one_pass};
 ghost use Rattle.step_driver.specs.PlainTarget.{target, plain_piece};
 ghost use Rattle.step_driver.specs.Spots.{spot_at};
 ghost use Rattle.buffer_rewrites.specs.PlainInner.{plain_inner, plain_lifting};
@@ -16,10 +17,10 @@ use crate::allocations::alloc_in;
 use crate::found::LiftingAt;
 use cursor_forward::Shifts;
 use exo_tree::{Block, Branch, Cond, Path, Step, Stmt};
-use made_trees::or_pass;
 use std::alloc::{AllocError, Global};
 use step_driver::{Piece, Target};
 use step_targets::{LoopAt, alone_to, at_index, one_shift, range_to, statement_count};
+use tree_edits::made::or_pass;
 
 /// A block of a loop or of a condition.
 #[derive(Clone, Copy)]
@@ -159,7 +160,7 @@ impl LiftingAt<'_> {
     /// The block without the allocation, with a `pass` where it would be empty.
     #[tactic(auto, using(crate::proofs::Lifted::without))]
     fn without(&self, alloc: Global) -> Result<Block, AllocError>
-        ensures { IfOk result (λ b. block b ≡ plain.or_one_pass (tree.joined (plain_lifting
+        ensures { IfOk result (λ b. block b ≡ or_one_pass (tree.joined (plain_lifting
             self.now).before (plain_lifting self.now).behind)) }
     {
         let index = self.index as usize;
@@ -181,7 +182,7 @@ impl LiftingAt<'_> {
     /// What stood round the allocation.
     fn round(&self, alloc: Global) -> Result<Block, AllocError>
         ensures { IfOk result (λ b. block b ≡ tree.next ((plain_lifting self.now).inner.put
-            (plain.or_one_pass (tree.joined (plain_lifting self.now).before (plain_lifting
+            (or_one_pass (tree.joined (plain_lifting self.now).before (plain_lifting
             self.now).behind))) tree.end) }
     {
         self.inner.with(alloc, self.without(alloc)?)

@@ -8,11 +8,11 @@ ghost use Rattle.alloc_laws.proofs.Carrying.{lift_is_carrying};
 use crate::inners::lifting_of;
 use cursor_forward::{Shifts, StepError};
 use exo_tree::{Block, Branch, Path};
-use made_trees::Fresh;
 use std::alloc::{AllocError, Global};
+use step_driver::needs::Need;
 use step_driver::{Piece, Target, Writing};
-use step_needs::Need;
 use step_targets::{OnPiece, Plain};
+use tree_edits::made::Fresh;
 
 /// The step at a loop or condition that puts an allocation of one of its blocks before it.
 /// `WrongShape` where no allocation has that place.

@@ -6,11 +6,11 @@ ghost use Rattle.alloc_laws.proofs.Memory.{memory_is_lawful, memory_is_carrying}
 use crate::allocations::alloc_at;
 use cursor_forward::{Shifts, StepError};
 use exo_tree::{Block, MemId, Path};
-use made_trees::Fresh;
 use std::alloc::{AllocError, Global};
+use step_driver::needs::Need;
 use step_driver::{Piece, Target, Writing, stays};
-use step_needs::Need;
 use step_targets::{OnPiece, Plain};
+use tree_edits::made::Fresh;
 
 /// The step that gives the allocation at a path another memory. `WrongShape` where no allocation
 /// stands there.

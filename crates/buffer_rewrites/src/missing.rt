@@ -11,7 +11,7 @@ use exo_tree::Ctrl;
 use std::alloc::{AllocError, Global};
 use step_driver::{Piece, Target};
 use step_targets::{Missing, scope_before};
-use tree_mentions::in_control;
+use tree_uses::mentions::in_control;
 
 /// Whether a name of an expression is not in scope before a piece.
 pub(crate) fn has_missing(

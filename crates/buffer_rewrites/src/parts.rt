@@ -5,7 +5,7 @@ ghost use Rattle.exo_tree.specs.PlainDatum.{datum};
 ghost use Rattle.buffer_laws.specs.Bound.{Top};
 ghost use Rattle.alloc_laws.specs.Bind.Binding as plain;
 ghost use Rattle.alloc_laws.specs.Bind.Binding.{Sought, Found, at_root, sought, part_found};
-ghost use Rattle.step_needs.specs.Outcomes.{Tries};
+ghost use Rattle.step_driver.specs.Needs.Outcomes.{Tries};
 ghost use Rattle.step_rules.specs.Shapes.{tried};
 ghost use Rattle.buffer_rewrites.specs.PlainForm.{plain_form};
 ghost use Rattle.buffer_rewrites.specs.PlainTaken.{plain_parted, parted_by};

@@ -12,15 +12,15 @@ ghost use Rattle.step_driver.specs.PlainTarget.{target, plain_piece};
 ghost use Rattle.step_driver.specs.Spots.{spot_at};
 ghost use Rattle.step_rules.specs.Lawful.{scope_here};
 ghost use Rattle.step_rules.specs.Shapes.{alone_in};
-ghost use Rattle.tree_rules.specs.Seen.{sort_seen};
+ghost use Rattle.exo_modes.specs.Sorts.{sort_seen};
 ghost use Rattle.buffer_rewrites.specs.PlainTaken.{plain_parted, plain_storing, storing_in};
 
 use crate::parts::Parted;
+use exo_modes::Sort;
 use exo_tree::{Binder, Block, Cell, DataExpr, Id, Indices, MemId, Name, Stmt};
 use std::alloc::{AllocError, Global};
 use step_driver::{Piece, Target};
 use step_targets::scope_before;
-use tree_rules::Sort;
 
 /// An assignment to cells, or a reduction into them.
 #[derive(Clone, Copy)]

@@ -4,7 +4,7 @@ use Rattle.std.proofs.lemmas.List.{take_more, map-append}
 use Rattle.exo_tree.specs.declared.number.Id.{Id}
 use Rattle.exo_tree.specs.Tree.{Statement, Assign, Reduce, Config, Pass, If, For, Alloc, View, Call, block}
 use Rattle.c_tree.specs.CTree.{Number64, Element, CStatement, Array, Malloc, Free, CBlock, stop, first, followed_by, cblock}
-use Rattle.c_lowered.specs.Lowered.{Naming, Forms, allocated, before, block_of, forms_after}
+use Rattle.c_lowering.specs.Made.Lowered.{Naming, Forms, allocated, before, block_of, forms_after}
 use Rattle.c_lowering.specs.Heads.{is_on_stack, made, head_of, kept, heaped, frees}
 
 pub followed_by_stop : (c : CBlock) → followed_by c stop ≡ c

@@ -6,3 +6,4 @@ pub mod Windows
 pub mod Lists
 pub mod Pairs
 pub mod Reading
+pub mod OfMade

@@ -5,7 +5,10 @@ use Rattle.exo_tree.specs.Tree.{Cell, Control, Lit}
 use Rattle.exo_tree.specs.PlainControl.{control}
 use Rattle.exo_tree.specs.declared.control.Ctrl.{Ctrl}
 use Rattle.c_tree.specs.CTree.{Name, Number64, Literal, StrideIn}
-use Rattle.c_lowered.specs.Lowered.{Naming, TensorForm, WindowForm, number_with, numbers_with, dims_of, strides_in, product_of, row_strides, window_strides, or_one, offset, front, without_lanes, zeros}
+use Rattle.c_lowering.specs.Made.Lowered.{Naming, TensorForm, WindowForm, number_with, numbers_with}
+use Rattle.c_lowering.specs.Made.Lowered.{dims_of, strides_in, product_of, row_strides}
+use Rattle.c_lowering.specs.Made.Lowered.{window_strides, or_one, offset, front, without_lanes}
+use Rattle.c_lowering.specs.Made.Lowered.{zeros}
 use Rattle.c_lowering.specs.Behind.{offset_behind}
 
 -- ---- dimensions behind one

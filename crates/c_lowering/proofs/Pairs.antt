@@ -4,7 +4,8 @@ use Rattle.std.proofs.lemmas.List.{drop_more}
 use Rattle.exo_tree.specs.Tree.{Param, Argument}
 use Rattle.exo_meaning.specs.Units.{is_hole_of}
 use Rattle.c_tree.specs.CTree.{Plain}
-use Rattle.c_lowered.specs.Lowered.{Naming, Forms, actual_of, actuals_of, piece_for, piece_named}
+use Rattle.c_lowering.specs.Made.Lowered.{Naming, Forms, actual_of, actuals_of, piece_for}
+use Rattle.c_lowering.specs.Made.Lowered.{piece_named}
 use Rattle.c_lowering.proofs.Lists.{mapped_next, none_mapped}
 
 pub actuals_next : (naming : Naming) (forms : Forms) (p : Param) (ps qs : List Param) (a : Argument) (rest args : List Argument) → qs ≡ p ∷ ps → args ≡ a ∷ rest → actuals_of naming forms qs args ≡ actual_of naming forms p.kind a ∷ actuals_of naming forms ps rest

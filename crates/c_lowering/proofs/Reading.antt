@@ -3,8 +3,8 @@ use Rattle.std.proofs.Common.{◌≡◌, ◌<◌, ◌≤◌, ◌+◌, ◌/◌, �
 use Rattle.std.specs.Prelude.{⊤}
 use Rattle.std.proofs.lemmas.Bool.{eqb-true}
 use Rattle.exo_meaning.specs.Units.{is_text, Plain, Opened, Closed, InHole}
-use Rattle.c_lowered.specs.Lowered.{Hole, Bytes, InBraces}
-use Rattle.c_lowered.specs.LoweredUnit.{with_byte, holes_from}
+use Rattle.c_lowering.specs.Made.Lowered.{Hole, Bytes, InBraces}
+use Rattle.c_lowering.specs.Made.LoweredUnit.{with_byte, holes_from}
 use Rattle.c_lowering.specs.PlainHole.{plain_hole}
 use Rattle.c_lowering.specs.Reader.{behind, left_from, IsPast}
 use Rattle.c_lowering.specs.declared.templates.Reader.{Reader}

@@ -2,8 +2,8 @@
 use Rattle.std.proofs.Common.{◌≡◌, ◌≤◌, ◌<◌, ◌+◌, ◌-◌, ℕ, ◌==◌, if◌then◌else◌, List, [], ◌∷◌, ◌++◌, length, take, get_or, arith, refl, sym, ap, ◌∙◌, eq-eqb, ne_eqb}
 use Rattle.std.proofs.lemmas.List.{take_more, take-take, take_at, length-take}
 use Rattle.exo_meaning.specs.Scene.{updated}
-use Rattle.c_lowered.specs.Lowered as lowered
-use Rattle.c_lowered.specs.Lowered.{NoForm}
+use Rattle.c_lowering.specs.Made.Lowered as lowered
+use Rattle.c_lowering.specs.Made.Lowered.{NoForm}
 use Rattle.c_lowering.specs.Scope.{form_of, found_in, forms_in}
 use Rattle.c_lowering.specs.declared.scope.Entry.{Entry}
 

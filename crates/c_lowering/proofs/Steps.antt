@@ -1,7 +1,7 @@
 -- Offsets in windows, index by index.
 use Rattle.std.proofs.Common.{◌≡◌, ◌<◌, ◌≤◌, ℕ, pos, ◌+◌, ◌-◌, List, [], ◌∷◌, refl, sym, ap, ap₂, ◌∙◌, arith}
 use Rattle.c_tree.specs.CTree.{Name, Number64, Literal, StrideIn, Sum, Product}
-use Rattle.c_lowered.specs.Lowered.{window_strides, scaled, scaled_from}
+use Rattle.c_lowering.specs.Made.Lowered.{window_strides, scaled, scaled_from}
 use Rattle.c_lowering.proofs.Offsets.{strides_from, no_strides_from}
 
 ends : (a : Number64) (es ts : List Number64) → ts ≡ [] → a ≡ scaled_from a es ts

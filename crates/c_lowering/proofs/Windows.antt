@@ -2,11 +2,11 @@
 use Rattle.std.proofs.Common.{◌≡◌, ◌<◌, ◌≤◌, ◌&&◌, nat_lt, ℕ, zero, suc, pos, ◌+◌, Bool, true, false, List, [], ◌∷◌, ◌++◌, map, length, drop, get_or, refl, sym, ap, ap₂, ◌∙◌, arith, append_assoc, drop-cons, add-one, true≢false}
 use Rattle.std.proofs.lemmas.List.{drop_all, drop-drop, map-append, length-append}
 use Rattle.exo_tree.specs.Tree.{Cell, Coord, At, Span}
+use Rattle.exo_tree.specs.Spans.{is_span}
 use Rattle.c_tree.specs.CTree.{Number64, Literal, CellRef, WindowOf}
 use Rattle.c_tree.specs.Plain.{plain_number}
 use Rattle.c_tree.specs.declared.tree.CNumber.{CNumber}
-use Rattle.c_lowered.specs.Lowered.{or_one, at_spans}
-use Rattle.c_lowering.specs.Whole.{is_span}
+use Rattle.c_lowering.specs.Made.Lowered.{or_one, at_spans}
 
 or_one_is : (ts : List Number64) (k : ℕ) → or_one ts k ≡ get_or ts k (Literal (pos 1))
 or_one_is [] k = refl

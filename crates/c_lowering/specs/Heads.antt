@@ -6,10 +6,10 @@ use Rattle.exo_tree.specs.Tree.{Pass, If, For, Alloc, View, Call, ControlParam}
 use Rattle.exo_meaning.specs.Scene.{updated}
 use Rattle.c_tree.specs.CTree.{Element, CStatement, Store, AddTo, SetField, Empty, Branch, Loop}
 use Rattle.c_tree.specs.CTree.{Array, Malloc, Free, CBlock, stop, first, followed_by}
-use Rattle.c_lowered.specs.Lowered.{Memory, Naming, Forms, NumberForm, cell_in, cell_at_of}
-use Rattle.c_lowered.specs.Lowered.{number32_of, number_of, test_of, actual_of, window_of}
-use Rattle.c_lowered.specs.Lowered.{bind_of, call_of, dims_of, product_of, without_lanes}
-use Rattle.c_lowered.specs.Lowered.{stack_count, element_of, is_empty, block_of}
+use Rattle.c_lowering.specs.Made.Lowered.{Memory, Naming, Forms, NumberForm, cell_in, cell_at_of}
+use Rattle.c_lowering.specs.Made.Lowered.{number32_of, number_of, test_of, actual_of, window_of}
+use Rattle.c_lowering.specs.Made.Lowered.{bind_of, call_of, dims_of, product_of, without_lanes}
+use Rattle.c_lowering.specs.Made.Lowered.{stack_count, element_of, is_empty, block_of}
 
 -- an allocation is on the stack where its memory is, or where it is one cell
 abbrev pub is_on_stack : Memory → List Control → Bool

@@ -6,3 +6,4 @@ pub mod Operations
 pub mod Behind
 pub mod Whole
 pub mod Heads
+pub mod Made

@@ -3,9 +3,9 @@ use Rattle.std.specs.Prelude.{pos}
 use Rattle.exo_tree.specs.Tree.{Control}
 use Rattle.exo_tree.specs.PlainUnit.{program}
 use Rattle.c_tree.specs.CTree.{Number64, Literal}
-use Rattle.c_lowered.specs.Lowered as lowered
-use Rattle.c_lowered.specs.Lowered.{Naming, number_with}
-use Rattle.c_lowered.specs.LoweredUnit.{naming_in}
+use Rattle.c_lowering.specs.Made.Lowered as lowered
+use Rattle.c_lowering.specs.Made.Lowered.{Naming, number_with}
+use Rattle.c_lowering.specs.Made.LoweredUnit.{naming_in}
 use Rattle.c_lowering.specs.declared.names.Names.{Names}
 use Rattle.c_lowering.specs.declared.names.Memory.{Memory}
 

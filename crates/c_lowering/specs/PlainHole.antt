@@ -1,6 +1,6 @@
 -- The plain form of a part of a template.
 use Rattle.std.specs.Prelude.{string_bytes}
-use Rattle.c_lowered.specs.Lowered as parts
+use Rattle.c_lowering.specs.Made.Lowered as parts
 use Rattle.c_lowering.specs.declared.templates.Hole.{Hole}
 use Rattle.c_lowering.specs.declared.templates.Hole.TheVariants.{Bytes, InBraces}
 

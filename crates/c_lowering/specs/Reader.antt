@@ -1,8 +1,8 @@
 -- How far the reading of a template is.
 use Rattle.std.specs.Prelude.{◌≡◌, ℕ, List, [], ◌∷◌, ◌++◌, map, string_bytes}
 use Rattle.exo_meaning.specs.Units.{Plain, Opened, Closed, InHole}
-use Rattle.c_lowered.specs.Lowered.{Hole}
-use Rattle.c_lowered.specs.LoweredUnit.{with_byte, holes_from}
+use Rattle.c_lowering.specs.Made.Lowered.{Hole}
+use Rattle.c_lowering.specs.Made.LoweredUnit.{with_byte, holes_from}
 use Rattle.c_lowering.specs.PlainHole.{plain_hole}
 use Rattle.c_lowering.specs.declared.templates.Place.{Place}
 use Rattle.c_lowering.specs.declared.templates.Place.TheVariants as places

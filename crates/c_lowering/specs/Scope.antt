@@ -1,8 +1,8 @@
 -- What the names in scope are in C, as the program keeps them.
 use Rattle.std.specs.Prelude.{ℕ, ◌==◌, if◌then◌else◌, List, [], ◌∷◌, Option, Some, None}
 use Rattle.exo_tree.specs.PlainBinder.{cell_type}
-use Rattle.c_lowered.specs.Lowered as lowered
-use Rattle.c_lowered.specs.Lowered.{Forms, NoForm, NumberForm, TensorForm, WindowForm}
+use Rattle.c_lowering.specs.Made.Lowered as lowered
+use Rattle.c_lowering.specs.Made.Lowered.{Forms, NoForm, NumberForm, TensorForm, WindowForm}
 use Rattle.c_lowering.specs.declared.scope.Form.{Form}
 use Rattle.c_lowering.specs.declared.scope.Form.TheVariants.{Number, Tensor, Window}
 use Rattle.c_lowering.specs.declared.scope.Entry.{Entry}

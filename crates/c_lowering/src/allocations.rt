@@ -4,8 +4,8 @@ ghost use Rattle.exo_tree.specs.Tree.{Lit};
 ghost use Rattle.exo_tree.specs.PlainBinder.{cell_type};
 ghost use Rattle.exo_tree.specs.PlainControl.{control};
 ghost use Rattle.c_tree.specs.Plain.{plain_element, plain_statement};
-ghost use Rattle.c_lowered.specs.Lowered as counts;
-ghost use Rattle.c_lowered.specs.Lowered.{element_of};
+ghost use Rattle.c_lowering.specs.Made.Lowered as counts;
+ghost use Rattle.c_lowering.specs.Made.Lowered.{element_of};
 ghost use Rattle.c_lowering.specs.Naming.{naming_of, memory_in};
 ghost use Rattle.c_lowering.specs.Heads.{is_on_stack, allocated_as, buffer_of};
 

@@ -4,7 +4,7 @@ ghost use Rattle.exo_tree.specs.PlainControl.{control, condition};
 ghost use Rattle.exo_tree.specs.PlainDatum.{datum};
 ghost use Rattle.c_tree.specs.CTree.{Literal, IsSet, InArray};
 ghost use Rattle.c_tree.specs.Plain.{plain_number, plain_test, cell_of, plain_cell, plain_data};
-ghost use Rattle.c_lowered.specs.Lowered.{number_of, test_of, cell_at_of, number32_of};
+ghost use Rattle.c_lowering.specs.Made.Lowered.{number_of, test_of, cell_at_of, number32_of};
 ghost use Rattle.c_lowering.specs.Scope.{forms_in};
 ghost use Rattle.c_lowering.specs.Naming.{naming_of};
 ghost use Rattle.c_lowering.specs.Operations.{data_of_one, data_of_two, compared, connected};

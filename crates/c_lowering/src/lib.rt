@@ -1,4 +1,5 @@
-//! The C of the body of a procedure, with windows, calls and instructions: `lower_block` makes its tree.
+//! The C of the body of a procedure, with windows, calls and instructions: what it is (`made`), and
+//! `lower_block`, which makes its tree.
 #![tactic(auto)]
 
 mod allocations;
@@ -6,6 +7,7 @@ mod arguments;
 mod blocks;
 mod calls;
 mod expressions;
+mod made;
 mod names;
 mod numbers;
 mod scope;

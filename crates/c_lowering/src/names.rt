@@ -1,10 +1,10 @@
 //! The C names of a procedure's binders and of configuration fields.
 ghost use Rattle.std.specs.Prelude.{◌≡◌, IfOk, string_bytes};
 ghost use Rattle.exo_tree.specs.PlainTables.{config_field};
-ghost use Rattle.c_lowered.specs.LoweredUnit.{field_name};
+ghost use Rattle.c_lowering.specs.Made.LoweredUnit.{field_name};
 ghost use Rattle.c_lowering.specs.Naming.{naming_of, memory_in};
 
-use c_names::NameTable;
+use c_tree::names::NameTable;
 use exo_tree::{Field, FieldId, Id, MemId, Unit};
 use std::alloc::{AllocError, Global};
 

@@ -3,9 +3,11 @@ ghost use Rattle.std.specs.Prelude.{◌≡◌, ◌+◌, ◌-◌, map, drop, IfOk
 ghost use Rattle.exo_tree.specs.PlainControl.{control};
 ghost use Rattle.c_tree.specs.CTree.{Literal, Named, StrideIn, Sum, Product};
 ghost use Rattle.c_tree.specs.Plain.{plain_number};
-ghost use Rattle.c_lowered.specs.Lowered.{number_of, numbers_of, dims_of, product_from, product_of};
-ghost use Rattle.c_lowered.specs.Lowered.{row_strides, window_strides, or_one, strides_in, horner};
-ghost use Rattle.c_lowered.specs.Lowered.{offset, scaled, scaled_from, front, without_lanes};
+ghost use Rattle.c_lowering.specs.Made.Lowered.{number_of, numbers_of, dims_of, product_from};
+ghost use Rattle.c_lowering.specs.Made.Lowered.{product_of};
+ghost use Rattle.c_lowering.specs.Made.Lowered.{row_strides, window_strides, or_one, strides_in};
+ghost use Rattle.c_lowering.specs.Made.Lowered.{horner};
+ghost use Rattle.c_lowering.specs.Made.Lowered.{offset, scaled, scaled_from, front, without_lanes};
 ghost use Rattle.c_lowering.specs.Scope.{forms_in};
 ghost use Rattle.c_lowering.specs.Naming.{naming_of, extent_of};
 ghost use Rattle.c_lowering.specs.Behind.{offset_behind};

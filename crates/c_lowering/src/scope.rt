@@ -4,7 +4,7 @@ ghost use Rattle.std.specs.Option.{option_copied};
 ghost use Rattle.exo_tree.specs.Tree.{I32};
 ghost use Rattle.exo_tree.specs.PlainBinder.{cell_type};
 ghost use Rattle.exo_meaning.specs.Scene.{updated};
-ghost use Rattle.c_lowered.specs.Lowered.{Naming, cell_in, strides_in};
+ghost use Rattle.c_lowering.specs.Made.Lowered.{Naming, cell_in, strides_in};
 ghost use Rattle.c_lowering.specs.Scope.{form_of, or_no_form, forms_in};
 
 use exo_tree::{Cell, Id, Indices};

@@ -4,7 +4,7 @@ ghost use Rattle.std.specs.Char.{encode_utf8};
 ghost use Rattle.exo_tree.specs.PlainParam.{parameter};
 ghost use Rattle.exo_meaning.specs.Units as units;
 ghost use Rattle.exo_meaning.specs.Units.{is_text, data_ending};
-ghost use Rattle.c_lowered.specs.LoweredUnit.{holes_of};
+ghost use Rattle.c_lowering.specs.Made.LoweredUnit.{holes_of};
 ghost use Rattle.c_lowering.specs.PlainHole.{plain_hole};
 ghost use Rattle.c_lowering.specs.Reader.{behind, all_parts, IsPast};
 ghost use Rattle.c_lowering.specs.declared.templates.Place.TheVariants as places;

@@ -2,9 +2,9 @@
 use Rattle.std.proofs.Common.{◌≡◌, ◌<◌, ◌≤◌, ◌+◌, ◌&&◌, ◌||◌, ℕ, suc, Bool, false, true, List, [], ◌∷◌, length, refl, ap, ap₂, ◌∙◌, arith}
 use Rattle.exo_tree.specs.Tree.{Procedure, Program}
 use Rattle.exo_tree.specs.Calls.{calls}
-use Rattle.exo_calls.specs.Closed.{closed}
-use Rattle.exo_calls.specs.Marked.{contains, Marked, Reached}
-use Rattle.c_lowered.specs.LoweredUnit.{Printing, is_listed, counts}
+use Rattle.exo_modes.specs.Calls.Closed.{closed}
+use Rattle.exo_modes.specs.Calls.Marked.{contains, Marked, Reached}
+use Rattle.c_lowering.specs.Made.LoweredUnit.{Printing, is_listed, counts}
 
 abbrev Same : ℕ → (ℕ → Bool) → (ℕ → Bool) → Type 0
 Same n one other = (j : ℕ) → j < n → one j ≡ other j

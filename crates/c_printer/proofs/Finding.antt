@@ -3,7 +3,7 @@ use Rattle.std.proofs.Common.{◌≡◌, ◌||◌, ◌&&◌, ◌==◌, Bool, tru
 use Rattle.std.proofs.lemmas.List.Folds.{list_any-append}
 use Rattle.exo_tree.specs.Cells.{same_cell, same_cell_is}
 use Rattle.c_tree.specs.CTree.{StructOf}
-use Rattle.c_lowered.specs.LoweredUnit.{is_struct}
+use Rattle.c_lowering.specs.Made.LoweredUnit.{is_struct}
 use Rattle.c_printer.specs.Found.{has, Found}
 
 or_none : (a : Bool) → a ≡ (a || false)

@@ -1,8 +1,8 @@
 -- The set of what is listed.
 use Rattle.std.proofs.Common.{◌≡◌, ◌==◌, ◌||◌, Bool, List, ◌∷◌, sym, ap}
-use Rattle.exo_calls.specs.Marked.{Marked}
-use Rattle.exo_calls.proofs.Sets.{marked_same, marked_then}
-use Rattle.c_lowered.specs.LoweredUnit.{Printing, is_listed}
+use Rattle.exo_modes.specs.Calls.Marked.{Marked}
+use Rattle.exo_modes.proofs.OfCalls.Sets.{marked_same, marked_then}
+use Rattle.c_lowering.specs.Made.LoweredUnit.{Printing, is_listed}
 
 -- one line of the list, and then the rest
 pub listed_next : (w : Printing) (rest ws : List Printing) (set mid new : List Bool) → ws ≡ w ∷ rest → Marked (λ k. k == w.proc) set mid → Marked (is_listed rest) mid new → Marked (is_listed ws) set new

@@ -1,9 +1,10 @@
 -- Sets of fields, and what walks add to them.
 use Rattle.std.proofs.Common.{◌≡◌, ◌<◌, ◌+◌, ◌&&◌, ◌||◌, ℕ, zero, suc, Bool, true, false, List, [], ◌∷◌, length, replicate, if◌then◌else◌, refl, sym, ap, ap₂, ◌∙◌, arith}
 use Rattle.exo_tree.specs.Tree.{Procedure, ConfigField, Program}
-use Rattle.exo_calls.specs.Marked.{contains, Marked}
-use Rattle.exo_calls.proofs.Sets.{marked_same, marked_none, marked_then}
-use Rattle.c_lowered.specs.LoweredUnit.{Printing, counts, is_used_from, is_used, in_procedure, fields_from, fields_of, field_name}
+use Rattle.exo_modes.specs.Calls.Marked.{contains, Marked}
+use Rattle.exo_modes.proofs.OfCalls.Sets.{marked_same, marked_none, marked_then}
+use Rattle.c_lowering.specs.Made.LoweredUnit.{Printing, counts, is_used_from, is_used, in_procedure}
+use Rattle.c_lowering.specs.Made.LoweredUnit.{fields_from, fields_of, field_name}
 
 -- one item of a list, and then the rest
 pub rest_marked : {A : Type 0} (one : ℕ → A → Bool) (all : ℕ → List A → Bool) → ((f : ℕ) (a : A) (rest : List A) → all f (a ∷ rest) ≡ (one f a || all f rest)) → (a : A) (rest xs : List A) (set mid new : List Bool) → xs ≡ a ∷ rest → Marked (λ f. one f a) set mid → Marked (λ f. all f rest) mid new → Marked (λ f. all f xs) set new

@@ -4,8 +4,8 @@ use Rattle.std.proofs.lemmas.List.{drop_more}
 use Rattle.exo_tree.specs.PlainParam.{parameter, parameter_kind}
 use Rattle.exo_tree.specs.declared.param.Param.{Param}
 use Rattle.exo_meaning.specs.Scene.{updated}
-use Rattle.c_lowered.specs.Lowered as lowered
-use Rattle.c_lowered.specs.Lowered.{param_forms}
+use Rattle.c_lowering.specs.Made.Lowered as lowered
+use Rattle.c_lowering.specs.Made.Lowered.{param_forms}
 
 param_first : (p : Param) (ps : List Param) → updated (param_forms (map parameter ps)) p.binder.id.0 (lowered.form_of (parameter_kind p.kind)) ≡ param_forms (map parameter (p ∷ ps))
 param_first p ps = let same : (x : ℕ) → updated (param_forms (map parameter ps)) p.binder.id.0 (lowered.form_of (parameter_kind p.kind)) x ≡ param_forms (map parameter (p ∷ ps)) x = λ x. refl in λ i x. same x i

@@ -3,7 +3,8 @@ use Rattle.std.proofs.Common.{◌≡◌, ◌<◌, ◌-◌, ◌+◌, ℕ, suc, Bo
 use Rattle.std.specs.List.{list_any, filter}
 use Rattle.std.proofs.lemmas.List.Elements.{filter-append}
 use Rattle.c_tree.specs.CTree.{CFunction, StructOf}
-use Rattle.c_lowered.specs.LoweredUnit.{names_struct, kept_structs, structs_of_rank, structs_from}
+use Rattle.c_lowering.specs.Made.LoweredUnit.{names_struct, kept_structs, structs_of_rank}
+use Rattle.c_lowering.specs.Made.LoweredUnit.{structs_from}
 use Rattle.c_printer.specs.Found.{has, Found}
 
 -- more behind those that are made

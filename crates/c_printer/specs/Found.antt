@@ -2,7 +2,7 @@
 use Rattle.std.specs.Prelude.{◌≡◌, ◌||◌, Bool, List}
 use Rattle.std.specs.List.{list_any}
 use Rattle.c_tree.specs.CTree.{StructOf}
-use Rattle.c_lowered.specs.LoweredUnit.{is_struct}
+use Rattle.c_lowering.specs.Made.LoweredUnit.{is_struct}
 
 -- whether the struct is in the set
 abbrev pub has : List StructOf → StructOf → Bool

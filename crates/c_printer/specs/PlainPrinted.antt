@@ -1,6 +1,6 @@
 -- The plain form of what is to be printed.
 use Rattle.std.specs.Prelude.{map}
-use Rattle.c_lowered.specs.LoweredUnit.{Printing}
+use Rattle.c_lowering.specs.Made.LoweredUnit.{Printing}
 use Rattle.c_printer.specs.declared.report.Printed.{Printed}
 
 abbrev pub printing : Printed → Printing

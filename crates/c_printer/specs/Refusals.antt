@@ -1,10 +1,10 @@
 -- When procedures have no C.
 use Rattle.std.specs.Prelude.{◌≡◌, ℕ, List, Option, Some, None, ⊤}
 use Rattle.exo_tree.specs.Tree.{Program}
-use Rattle.c_names.specs.Words.{Name}
-use Rattle.c_names.specs.Clash.{first_clash}
+use Rattle.c_tree.specs.Names.Words.{Name}
+use Rattle.c_tree.specs.Names.Clash.{first_clash}
 use Rattle.c_widths.specs.Raises.{widest}
-use Rattle.c_lowered.specs.LoweredUnit.{Printing, is_listed, counts, global_names}
+use Rattle.c_lowering.specs.Made.LoweredUnit.{Printing, is_listed, counts, global_names}
 use Rattle.c_printer.specs.declared.report.LowerError.{LowerError}
 use Rattle.c_printer.specs.declared.report.LowerError.TheVariants.{TooWide, NameClash, Memory}
 

@@ -1,12 +1,12 @@
 //! The procedures whose trees count for a file: the listed ones, the instructions that they call, and what these call.
 ghost use Rattle.std.specs.Prelude.{◌≡◌, ◌<◌, ℕ, false, length, map, replicate, IfOk};
 ghost use Rattle.exo_tree.specs.PlainUnit.{program};
-ghost use Rattle.exo_calls.specs.Marked.{contains, Marked};
-ghost use Rattle.c_lowered.specs.LoweredUnit.{is_listed, counts};
+ghost use Rattle.exo_modes.specs.Calls.Marked.{contains, Marked};
+ghost use Rattle.c_lowering.specs.Made.LoweredUnit.{is_listed, counts};
 ghost use Rattle.c_printer.specs.PlainPrinted.{printing};
 
 use crate::report::Printed;
-use exo_calls::{Marks, Through, close};
+use exo_modes::calls::{Marks, Through, close};
 use exo_tree::Unit;
 use std::alloc::{AllocError, Global};
 

@@ -1,6 +1,6 @@
 //! Sets of a unit's configuration fields.
 ghost use Rattle.std.specs.Prelude.{◌≡◌, ◌==◌, false, length, replicate, IfOk};
-ghost use Rattle.exo_calls.specs.Marked.{contains, Marked};
+ghost use Rattle.exo_modes.specs.Calls.Marked.{contains, Marked};
 
 use exo_tree::FieldId;
 use std::alloc::{AllocError, Global};

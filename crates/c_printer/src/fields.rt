@@ -7,14 +7,16 @@ ghost use Rattle.exo_tree.specs.PlainStatement.{statement};
 ghost use Rattle.exo_tree.specs.PlainProcedure.{procedure};
 ghost use Rattle.exo_tree.specs.PlainTables.{config_field};
 ghost use Rattle.exo_tree.specs.PlainUnit.{program};
-ghost use Rattle.exo_calls.specs.Marked.{contains, Marked};
-ghost use Rattle.c_lowered.specs.LoweredUnit.{in_control, in_condition, in_conditions, in_argument};
-ghost use Rattle.c_lowered.specs.LoweredUnit.{in_arguments, in_block, in_statement, in_procedure};
-ghost use Rattle.c_lowered.specs.LoweredUnit.{is_used_from, fields_from};
+ghost use Rattle.exo_modes.specs.Calls.Marked.{contains, Marked};
+ghost use Rattle.c_lowering.specs.Made.LoweredUnit.{in_control, in_condition, in_conditions};
+ghost use Rattle.c_lowering.specs.Made.LoweredUnit.{in_argument};
+ghost use Rattle.c_lowering.specs.Made.LoweredUnit.{in_arguments, in_block, in_statement};
+ghost use Rattle.c_lowering.specs.Made.LoweredUnit.{in_procedure};
+ghost use Rattle.c_lowering.specs.Made.LoweredUnit.{is_used_from, fields_from};
 
 use crate::field_marks::FieldMarks;
 use c_lowering::field_name;
-use exo_calls::Marks;
+use exo_modes::calls::Marks;
 use exo_tree::{Arg, Args, Block, Cond, Conds, Ctrl, Field, Name, Proc, Stmt, Unit};
 use std::alloc::{AllocError, Global};
 

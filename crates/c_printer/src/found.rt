@@ -2,7 +2,7 @@
 ghost use Rattle.std.specs.Prelude.{◌≡◌, [], OnOk};
 ghost use Rattle.exo_tree.specs.PlainBinder.{cell_type};
 ghost use Rattle.c_tree.specs.Plain.{plain_struct};
-ghost use Rattle.c_lowered.specs.LoweredUnit.{is_struct};
+ghost use Rattle.c_lowering.specs.Made.LoweredUnit.{is_struct};
 ghost use Rattle.c_printer.specs.Found.{has, Found};
 
 use c_tree::tree::CStruct;

@@ -1,22 +1,13 @@
 //! The names of a file's functions and fields.
-ghost use Rattle.std.specs.Prelude.{◌≡◌, ◌++◌, map, slice_get, string_bytes, IfOk};
+ghost use Rattle.std.specs.Prelude.{◌≡◌, ◌++◌, map, string_bytes, IfOk};
 ghost use Rattle.exo_tree.specs.PlainUnit.{program};
-ghost use Rattle.c_lowered.specs.LoweredUnit.{name_of, printed_names};
+ghost use Rattle.exo_tree.specs.Named.{name_of};
+ghost use Rattle.c_lowering.specs.Made.LoweredUnit.{printed_names};
 ghost use Rattle.c_printer.specs.PlainPrinted.{printing};
 
 use crate::report::Printed;
-use exo_tree::{Name, ProcId, Unit};
+use exo_tree::{Name, Unit};
 use std::alloc::{AllocError, Global};
-
-/// The name of a procedure; empty where the unit has none of that number.
-fn name_of(alloc: Global, unit: &Unit, k: ProcId) -> Result<Name, AllocError>
-    ensures { IfOk result (λ n. n ≡ name_of (slice_get unit.now.procs k.0)) }
-{
-    match unit.procs.get(k.0 as usize) {
-        Some(p) => p.name.duplicate(alloc),
-        None => Name::new(alloc, ""),
-    }
-}
 
 /// The names of the listed procedures.
 fn printed_names(alloc: Global, unit: &Unit, what: &[Printed]) -> Result<Vec<Name>, AllocError>
@@ -24,7 +15,7 @@ fn printed_names(alloc: Global, unit: &Unit, what: &[Printed]) -> Result<Vec<Nam
 {
     let mut names = Vec::new(alloc);
     for w in what {
-        names.push(name_of(alloc, unit, w.proc)?)?;
+        names.push(Name::new(alloc, unit.name_of(w.proc))?)?;
     }
     Ok(names)
 }

@@ -5,10 +5,11 @@ ghost use Rattle.exo_tree.specs.PlainStatement.{statement};
 ghost use Rattle.exo_tree.specs.PlainTables.{memory_kind};
 ghost use Rattle.exo_tree.specs.PlainUnit.{program};
 ghost use Rattle.c_printer.specs.PlainPrinted.{printing};
-ghost use Rattle.c_lowered.specs.LoweredUnit.{stands_in, is_made_in, stands_in_procedure, is_filled, is_new, headers_from, headers_of};
+ghost use Rattle.c_lowering.specs.Made.LoweredUnit.{stands_in, is_made_in, stands_in_procedure};
+ghost use Rattle.c_lowering.specs.Made.LoweredUnit.{is_filled, is_new, headers_from, headers_of};
 
 use crate::report::Printed;
-use c_names::is_in;
+use c_tree::names::is_in;
 use exo_tree::{Block, MemoryClass, Name, ProcId, Stmt, Unit};
 use std::alloc::{AllocError, Global};
 

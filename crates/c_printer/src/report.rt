@@ -1,8 +1,8 @@
 //! The report at the head of a file, and why there is no file.
-ghost use Rattle.std.specs.Prelude.{◌≡◌, ◌++◌, map, codes, IfOk, string_bytes, slice_get};
+ghost use Rattle.std.specs.Prelude.{◌≡◌, ◌++◌, map, codes, IfOk, string_bytes};
 ghost use Rattle.exo_tree.specs.PlainUnit.{program};
 ghost use Rattle.c_tree.specs.Plain.{plain_line};
-ghost use Rattle.c_lowered.specs.LoweredUnit.{named_field, field_word, name_of, line_of};
+ghost use Rattle.c_lowering.specs.Made.LoweredUnit.{named_field, field_word, line_of};
 ghost use Rattle.c_printer.specs.PlainPrinted.{printing};
 
 use c_tree::tree::ReportLine;
@@ -65,21 +65,11 @@ fn report_fields(alloc: Global, unit: &Unit, fields: &[FieldId]) -> Result<Vec<S
     Ok(made)
 }
 
-/// The name of a procedure; empty where the unit has no procedure of that number.
-fn printed_name(alloc: Global, unit: &Unit, k: ProcId) -> Result<String, AllocError>
-    ensures { IfOk result (λ s. string_bytes s ≡ name_of (slice_get unit.now.procs k.0)) }
-{
-    match unit.procs.get(k.0 as usize) {
-        Some(p) => String::from_str(alloc, p.name.as_str()),
-        None => Ok(String::new(alloc)),
-    }
-}
-
 /// A line of the report.
 fn report_line(alloc: Global, unit: &Unit, w: &Printed) -> Result<ReportLine, AllocError>
     ensures { IfOk result (λ r. plain_line r ≡ line_of (program unit.now) (printing w.now)) }
 {
-    let name = printed_name(alloc, unit, w.proc)?;
+    let name = String::from_str(alloc, unit.name_of(w.proc))?;
     let origin = String::from_str(alloc, w.origin.as_str())?;
     let differs = report_fields(alloc, unit, &w.fields)?;
     Ok(ReportLine {

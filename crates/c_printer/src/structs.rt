@@ -5,7 +5,7 @@ ghost use Rattle.c_tree.specs.CTree.{cblock};
 ghost use Rattle.exo_tree.specs.PlainBinder.{cell_type};
 ghost use Rattle.c_tree.specs.Plain.{plain_struct, plain_actual, plain_statement, plain_param};
 ghost use Rattle.c_tree.specs.Plain.{plain_function};
-ghost use Rattle.c_lowered.specs.LoweredUnit as structs;
+ghost use Rattle.c_lowering.specs.Made.LoweredUnit as structs;
 ghost use Rattle.c_printer.specs.Found.{has, Found};
 
 use crate::found::FoundStructs;

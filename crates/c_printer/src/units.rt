@@ -2,9 +2,10 @@
 ghost use Rattle.std.specs.Prelude.{◌≡◌, ◌<◌, ℕ, List, map, length, Some, None, string_bytes, IfOk, IfErr};
 ghost use Rattle.exo_tree.specs.Tree.{Program};
 ghost use Rattle.exo_tree.specs.PlainUnit.{program};
-ghost use Rattle.exo_calls.specs.Marked.{contains};
+ghost use Rattle.exo_modes.specs.Calls.Marked.{contains};
 ghost use Rattle.c_tree.specs.Plain.{plain_unit};
-ghost use Rattle.c_lowered.specs.LoweredUnit.{Printing, counts, fields_of, headers_of, global_names, lowered};
+ghost use Rattle.c_lowering.specs.Made.LoweredUnit.{Printing, counts, fields_of, headers_of};
+ghost use Rattle.c_lowering.specs.Made.LoweredUnit.{global_names, lowered};
 ghost use Rattle.c_printer.specs.PlainPrinted.{printing};
 ghost use Rattle.c_printer.specs.Refusals.{too_wide, name_clash, Refuses};
 
@@ -15,11 +16,11 @@ use crate::globals::{global_names, texts};
 use crate::headers::lower_headers;
 use crate::report::{LowerError, Printed, lower_report};
 use crate::structs::lower_structs;
-use c_names::{Globals, first_clash};
+use c_tree::names::{Globals, first_clash};
 use c_tree::tree::CUnit;
 use c_widths::laws::widest_is_of_the_unit;
 use c_widths::widest;
-use exo_calls::Marks;
+use exo_modes::calls::Marks;
 use exo_tree::{Name, ProcId, Unit};
 use std::alloc::{AllocError, Global};
 

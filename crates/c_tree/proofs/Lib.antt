@@ -3,3 +3,4 @@ pub mod Appends
 pub mod Maps
 pub mod Listed
 pub mod Joined
+pub mod OfNames

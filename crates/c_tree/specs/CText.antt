@@ -2,6 +2,7 @@
 use Rattle.std.specs.Prelude.{ℕ, List, [], ◌∷◌, ◌++◌, map, codes, decimal}
 use Rattle.std.specs.Fmt.{signed_decimal}
 use Rattle.exo_tree.specs.Tree.{Cell, I8, I16, I32, Ui8}
+use Rattle.exo_tree.specs.Named.{cell_word}
 use Rattle.c_tree.specs.CTree.{Name, Element, Single, Vector, Number64, Literal, Named, StrideIn}
 use Rattle.c_tree.specs.CTree.{Opposite, Sum, Difference, Product, Quotient, Remainder, Test}
 use Rattle.c_tree.specs.CTree.{Always, Never, IsSet, Less, LessEqual, More, MoreEqual, Equal, Both}
@@ -12,7 +13,7 @@ use Rattle.c_tree.specs.CTree.{FirstCell, CStatement, Store, AddTo, SetField, Em
 use Rattle.c_tree.specs.CTree.{Array, Malloc, Free, Bind, CallOf, Instruction, CBlock, stop, first}
 use Rattle.c_tree.specs.CTree.{Formal, Number64Param, ArrayParam, WindowParamOf, CFunction}
 use Rattle.c_tree.specs.CTree.{ReportLine, StructOf, CUnit}
-pub use Rattle.c_names.specs.Helpers.{Text, margin, helpers}
+pub use Rattle.c_tree.specs.Names.Helpers.{Text, margin, helpers}
 
 -- in parentheses, with a word between
 abbrev pub between : Text → Text → Text → Text
@@ -27,12 +28,6 @@ each f (a ∷ rest) = f a ++ each f rest
 abbrev pub listed : List Text → Text
 listed [] = []
 listed (t ∷ ts) = t ++ each (λ u. codes ", " ++ u) ts
-
-abbrev pub cell_word : Cell → Text
-cell_word I8 = codes "i8"
-cell_word I16 = codes "i16"
-cell_word I32 = codes "i32"
-cell_word Ui8 = codes "ui8"
 
 abbrev pub type_word : Cell → Text
 type_word I8 = codes "int8_t"

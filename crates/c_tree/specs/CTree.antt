@@ -1,7 +1,7 @@
 -- Plain trees of C, with one form for each kind of C text.
 use Rattle.std.specs.Prelude.{ℕ, ℤ, List, [], ◌∷◌}
 use Rattle.exo_tree.specs.Tree.{Cell}
-pub use Rattle.c_names.specs.Words.{Name}
+pub use Rattle.c_tree.specs.Names.Words.{Name}
 
 -- the element type of an array: a cell type, or a vector type of so many cells
 pub data Element : Type 0 where

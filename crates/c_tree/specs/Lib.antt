@@ -4,3 +4,4 @@ pub mod Sizes
 pub mod Plain
 pub mod Falls
 pub mod CText
+pub mod Names

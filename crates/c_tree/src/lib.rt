@@ -1,6 +1,7 @@
-//! C: its trees and their text.
+//! C: its names, its trees and their text.
 #![tactic(auto)]
 
+pub mod names;
 mod show;
 mod text;
 pub mod tree;

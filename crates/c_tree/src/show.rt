@@ -1,7 +1,7 @@
 //! Expressions of C print as C.
 ghost use Rattle.std.specs.Prelude.{◌≡◌, Some, map, string_bytes};
 ghost use Rattle.exo_tree.specs.PlainBinder.{cell_type};
-ghost use Rattle.c_tree.specs.CText.{cell_word, type_word, struct_word, element_word};
+ghost use Rattle.c_tree.specs.CText.{type_word, struct_word, element_word};
 ghost use Rattle.c_tree.specs.CText.{number64_text, test_text, cell_text, number32_text};
 ghost use Rattle.c_tree.specs.CText.{actual_text, piece_text, allocation_text, bound_text};
 ghost use Rattle.c_tree.specs.CText.{formal_text, head_text, each, listed};
@@ -15,18 +15,6 @@ use crate::tree::{
 };
 use exo_tree::Cell;
 use std::fmt;
-
-/// The word of a cell type in a struct's name.
-fn cell_word(cell: Cell) -> &'static str
-    ensures { result.now ≡ cell_word (cell_type cell) }
-{
-    match cell {
-        Cell::I8 => "i8",
-        Cell::I16 => "i16",
-        Cell::I32 => "i32",
-        Cell::Ui8 => "ui8",
-    }
-}
 
 /// The C type of cells.
 pub(crate) fn type_word(cell: Cell) -> &'static str
@@ -109,7 +97,7 @@ impl fmt::Display for CStruct {
     ghost output = { λ s. Some (struct_word s.rank (cell_type s.cell)) };
 
     fn fmt<W: fmt::Write>(&self, f: &mut fmt::Formatter<W>) -> fmt::Result {
-        write!(f, "struct exo_win_{}{}", self.rank, cell_word(self.cell))
+        write!(f, "struct exo_win_{}{}", self.rank, self.cell.word())
     }
 }
 

@@ -7,9 +7,9 @@ ghost use Rattle.c_tree.specs.CText.{function_text, report_text, include_text, s
 ghost use Rattle.c_tree.specs.CText.{field_text, preamble_text, text_of};
 ghost use Rattle.c_tree.specs.Plain.{plain_statement, plain_struct, plain_param, plain_function, plain_line, plain_unit};
 
+use crate::names::{put_helpers, put_margin};
 use crate::show::type_word;
 use crate::tree::{CBlock, CFunction, CParam, CStatement, CStruct, CUnit, ReportLine};
-use c_names::{put_helpers, put_margin};
 use std::alloc::{AllocError, Global};
 
 /// Appends a line behind an indentation.

@@ -5,8 +5,10 @@ use Rattle.std.specs.Fmt.{decimal}
 use Rattle.std.specs.Str.Parse.{AllDigits}
 use Rattle.std.proofs.lemmas.Str.Parse.{digit_from_value}
 use Rattle.std.proofs.lemmas.Bool.{and_parts}
-use Rattle.c_names.specs.Words.{Name, same_name, is_in, is_own, is_word, type_keywords, statement_keywords, other_keywords, library_words, exact_types, least_types, fast_types, greatest_types}
-use Rattle.c_names.specs.Names.{is_reserved, pick, numbered, is_taken, c_name}
+use Rattle.c_tree.specs.Names.Words.{Name, same_name, is_in, is_own, is_word, type_keywords}
+use Rattle.c_tree.specs.Names.Words.{statement_keywords, other_keywords, library_words, exact_types}
+use Rattle.c_tree.specs.Names.Words.{least_types, fast_types, greatest_types}
+use Rattle.c_tree.specs.Names.Names.{is_reserved, pick, numbered, is_taken, c_name}
 use Rattle.c_unit_laws.proofs.Spelling.{Small, differ, numbered_injective, is_own_stem, numbered_open, numbered_own, digits_of, some_digit}
 use Rattle.c_unit_laws.proofs.Free.{or_false, room, number_of, number_below, free}
 

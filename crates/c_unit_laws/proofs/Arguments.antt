@@ -7,10 +7,11 @@ use Rattle.exo_tree.specs.Tree.{Cell, Kind, Control, Argument, ControlArg, Condi
 use Rattle.exo_meaning.specs.Units.{Scope, sort_in, is_truth, has_cell, has_rank, is_dense, spans, with_both, is_control, is_condition, is_coord, is_window, is_of_kind, is_for_tensor, is_for_window, is_for, are_for}
 use Rattle.c_widths.specs.Widths.{is_narrow_argument, are_narrow_arguments, are_narrow_coords}
 use Rattle.c_widths.specs.Raises.{argument_magnitude, AreCoveredFrom}
-use Rattle.c_lowered.specs.Lowered.{Forms}
-use Rattle.c_lowered.specs.LoweredUnit.{in_argument, in_arguments}
-use Rattle.c_follows.specs.Simulation.{Declared}
-use Rattle.c_follows.specs.Good.{IsAnyBuffer, IsGoodArgument, AreGoodArguments, AreGoodCoords, EndsInSpan}
+use Rattle.c_lowering.specs.Made.Lowered.{Forms}
+use Rattle.c_lowering.specs.Made.LoweredUnit.{in_argument, in_arguments}
+use Rattle.c_unit_laws.specs.Follows.Simulation.{Declared}
+use Rattle.c_unit_laws.specs.Follows.Good.{IsAnyBuffer, IsGoodArgument, AreGoodArguments}
+use Rattle.c_unit_laws.specs.Follows.Good.{AreGoodCoords, EndsInSpan}
 use Rattle.c_unit_laws.proofs.Forms.{Fits, IsForm, typed_form, tensor_form, no_lanes, no_span}
 use Rattle.c_unit_laws.proofs.Expressions.{good_coords, good_open, good_test}
 use Rattle.c_unit_laws.proofs.Clear.{IsClearBuffer, IsClearArgument, AreClearArguments}

@@ -4,11 +4,11 @@ use Rattle.std.specs.Prelude.{⊤}
 use Rattle.std.specs.List.{list_any}
 use Rattle.exo_tree.specs.Tree.{Binder, Param}
 use Rattle.exo_meaning.specs.Units.{Named, Scope, Sort, sort_in, is_text, is_new, with_name, scope_of, param_sort}
-use Rattle.c_names.specs.Words.{Name, same_name}
-use Rattle.c_names.specs.Binders.{param_binders}
-use Rattle.c_lowered.specs.Lowered.{NoForm, Forms}
-use Rattle.c_follows.specs.Simulation.{Ground}
-use Rattle.c_follows.specs.Good.{IsAlone, IsFresh, AreNamedApart}
+use Rattle.c_tree.specs.Names.Words.{Name, same_name}
+use Rattle.c_tree.specs.Names.Binders.{param_binders}
+use Rattle.c_lowering.specs.Made.Lowered.{NoForm, Forms}
+use Rattle.c_unit_laws.specs.Follows.Simulation.{Ground}
+use Rattle.c_unit_laws.specs.Follows.Good.{IsAlone, IsFresh, AreNamedApart}
 use Rattle.c_unit_laws.proofs.Spelling.{same_self, differ}
 use Rattle.c_unit_laws.proofs.Free.{or_false}
 use Rattle.c_unit_laws.proofs.Forms.{Stands, Fits}

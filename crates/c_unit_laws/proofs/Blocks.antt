@@ -9,15 +9,19 @@ use Rattle.exo_meaning.specs.Scene.{updated}
 use Rattle.exo_meaning.specs.Run.{roots_after}
 use Rattle.exo_meaning.specs.Units.{Sort, ControlName, BufferName, Scope, sort_in, is_new, with_name, is_truth, has_rank, view_sort, spans, plainly, with_fields, with_strides, is_control, are_controls, is_condition, is_access, is_datum, is_coord, is_window, are_for, share_nothing_written, is_call, is_write, is_empty, is_short, scope_after, is_block, is_statement}
 use Rattle.memory_kinds.specs.Homes.{Homes, homes_after}
-use Rattle.c_names.specs.Binders.{binders_in, binders_of}
+use Rattle.c_tree.specs.Names.Binders.{binders_in, binders_of}
 use Rattle.c_widths.specs.Magnitude.{magnitude, is_narrow}
 use Rattle.c_widths.specs.Widths.{are_narrow, is_narrow_test, is_narrow_datum, is_narrow_setting, are_narrow_arguments, is_narrow_block, is_narrow_statement, fits_cells, fits_stack, with_bounds}
 use Rattle.c_widths.specs.Raises.{Raises, IsCovered, StatementIsCovered, AreCoveredFrom}
 use Rattle.c_tree.specs.CTree.{Name, Number64}
-use Rattle.c_lowered.specs.Lowered.{Naming, Form, NumberForm, TensorForm, WindowForm, Forms, forms_after, without_lanes, numbers_with, row_strides, window_strides, strides_in, at_spans, cell_in}
-use Rattle.c_lowered.specs.LoweredUnit.{in_condition, in_argument, in_arguments, in_statement, in_block}
-use Rattle.c_follows.specs.Simulation.{Ground}
-use Rattle.c_follows.specs.Good.{IsBuffer, AreGood, IsGoodDatum, IsGoodSetting, IsGoodBlock, IsGoodStatement, IsGoodCall, is_function}
+use Rattle.c_lowering.specs.Made.Lowered.{Naming, Form, NumberForm, TensorForm, WindowForm, Forms}
+use Rattle.c_lowering.specs.Made.Lowered.{forms_after, without_lanes, numbers_with, row_strides}
+use Rattle.c_lowering.specs.Made.Lowered.{window_strides, strides_in, at_spans, cell_in}
+use Rattle.c_lowering.specs.Made.LoweredUnit.{in_condition, in_argument, in_arguments, in_statement}
+use Rattle.c_lowering.specs.Made.LoweredUnit.{in_block}
+use Rattle.c_unit_laws.specs.Follows.Simulation.{Ground}
+use Rattle.c_unit_laws.specs.Follows.Good.{IsBuffer, AreGood, IsGoodDatum, IsGoodSetting}
+use Rattle.c_unit_laws.specs.Follows.Good.{IsGoodBlock, IsGoodStatement, IsGoodCall, is_function}
 use Rattle.c_unit_laws.proofs.Forms.{lanes_in, Stands, Fits, IsForm, wider, wider_number, form_by}
 use Rattle.c_unit_laws.proofs.Expressions.{ReadsCells, good, all_good, of_cells, access, good_datum, good_coords, good_open, good_test}
 use Rattle.c_unit_laws.proofs.Clear.{IsClear, IsClearStatement, AreClearArguments}

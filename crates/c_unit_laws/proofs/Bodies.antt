@@ -6,23 +6,24 @@ use Rattle.exo_meaning.specs.State.{State}
 use Rattle.exo_meaning.specs.Calls.{Callee}
 use Rattle.exo_meaning.specs.Run.{kinds_of}
 use Rattle.exo_meaning.specs.Units.{IsUnit}
-use Rattle.exo_calls.proofs.Entries.{table_entry}
-use Rattle.exo_calls.proofs.Reach.{seeds_are_closed, closed_is_closed}
+use Rattle.exo_modes.proofs.OfCalls.Entries.{table_entry}
+use Rattle.exo_modes.proofs.OfCalls.Reach.{seeds_are_closed, closed_is_closed}
 use Rattle.memory_kinds.specs.Faults.{fault_of}
 use Rattle.c_widths.specs.Few.{fewness_of}
-use Rattle.c_machine.specs.CRun.{Behaviour, CWorld, globals_of}
-use Rattle.c_lowered.specs.Lowered.{Naming, param_forms}
-use Rattle.c_lowered.specs.LoweredUnit.{Printing, is_listed, counts, global_names, lowered}
-use Rattle.c_follows.specs.Simulation.{Ends}
-use Rattle.c_follows.specs.Calls.{IsFollowed}
-use Rattle.c_follows.specs.Bodies.{body_of, bodies_of}
-use Rattle.c_follows.specs.Templates.{TemplatesDoTheirBodies}
-use Rattle.c_follows.specs.Functions.{behaviour_of}
-use Rattle.c_follows.specs.Units.{AreLowered}
-use Rattle.c_follows.specs.Grounds.{world_above, bounds_in, ground_of, plain_naming, plain_ground}
+use Rattle.c_unit_laws.specs.Follows.Machine.CRun.{Behaviour, CWorld, globals_of}
+use Rattle.c_lowering.specs.Made.Lowered.{Naming, param_forms}
+use Rattle.c_lowering.specs.Made.LoweredUnit.{Printing, is_listed, counts, global_names, lowered}
+use Rattle.c_unit_laws.specs.Follows.Simulation.{Ends}
+use Rattle.c_unit_laws.specs.Follows.Calls.{IsFollowed}
+use Rattle.c_unit_laws.specs.Follows.Bodies.{body_of, bodies_of}
+use Rattle.c_unit_laws.specs.Follows.Templates.{TemplatesDoTheirBodies}
+use Rattle.c_unit_laws.specs.Follows.Functions.{behaviour_of}
+use Rattle.c_unit_laws.specs.Follows.Units.{AreLowered}
+use Rattle.c_unit_laws.specs.Follows.Grounds.{world_above, bounds_in, ground_of, plain_naming}
+use Rattle.c_unit_laws.specs.Follows.Grounds.{plain_ground}
 use Rattle.c_unit_laws.proofs.Listed.{listed_here}
 use Rattle.c_unit_laws.proofs.Standing.{Stood, stood, get_taken, calls_before}
-use Rattle.c_follows.proofs.WithCalls.{blocks_follow}
+use Rattle.c_unit_laws.proofs.OfFollows.WithCalls.{blocks_follow}
 use Rattle.c_unit_laws.proofs.Fewer.{few_at, few_before, few_above}
 use Rattle.c_unit_laws.proofs.Functions.{field_global, function_global}
 use Rattle.c_unit_laws.proofs.Followed.{IsOfFile, FewAt, callee_of, HasCalls, follows_less, followed}

@@ -3,8 +3,8 @@ use Rattle.std.proofs.Common.{◌≡◌, ℕ, Bool, true, false, List, [], ◌�
 use Rattle.std.specs.Prelude.{⊤}
 use Rattle.exo_tree.specs.Tree.{Control, Coord, Datum, Const, Read, Negated, Relu, Plus, Minus, Times, Select, Argument, ControlArg, ConditionArg, Whole, Window, Statement, Assign, Reduce, Config, Pass, If, For, Alloc, View, Call, Block, end, next, Param, ParamKind, ControlParam, TensorParam, WindowParam}
 use Rattle.memory_kinds.specs.Homes.{Homes, homes_after}
-use Rattle.c_lowered.specs.Lowered.{Memory, Naming}
-use Rattle.c_follows.specs.Good.{EndsInSpan, EndsInLanes, AreLiterals, is_function}
+use Rattle.c_lowering.specs.Made.Lowered.{Memory, Naming}
+use Rattle.c_unit_laws.specs.Follows.Good.{EndsInSpan, EndsInLanes, AreLiterals, is_function}
 use Rattle.c_unit_laws.proofs.Forms.{lanes_in}
 use Rattle.c_unit_laws.proofs.Expressions.{ReadsCells}
 

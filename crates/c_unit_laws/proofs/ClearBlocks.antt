@@ -8,9 +8,9 @@ use Rattle.exo_meaning.specs.Units.{is_memory}
 use Rattle.memory_kinds.specs.declared.error.KindError.{KindError}
 use Rattle.memory_kinds.specs.Homes.{Homes, homes_after}
 use Rattle.memory_kinds.specs.Faults.{in_memory, write_fault, reduce_fault, reads_fault, arguments_fault, call_fault, block_fault, step_fault}
-use Rattle.c_lowered.specs.Lowered.{Naming, Routine}
-use Rattle.c_lowered.specs.LoweredUnit.{memory_of, routine_of, holes_of}
-use Rattle.c_follows.specs.Good.{is_function}
+use Rattle.c_lowering.specs.Made.Lowered.{Naming, Routine}
+use Rattle.c_lowering.specs.Made.LoweredUnit.{memory_of, routine_of, holes_of}
+use Rattle.c_unit_laws.specs.Follows.Good.{is_function}
 use Rattle.c_unit_laws.proofs.Forms.{lanes_in}
 use Rattle.c_unit_laws.proofs.Clear.{AreClearArguments, IsClear, IsClearStatement, AreClearParams}
 use Rattle.c_unit_laws.proofs.Memories.{both_none, writes_cells, reduces_cells, views_cells, suits, clear_reads, clear_arguments}

@@ -10,11 +10,12 @@ use Rattle.exo_meaning.specs.Value.{wrap}
 use Rattle.exo_meaning.specs.Units.{Scope, sort_in, has_rank, has_dimension, Reads, plainly, is_literal_number, is_of_literals, is_control, are_controls, is_condition, is_access, is_datum, is_coord}
 use Rattle.c_widths.specs.Magnitude.{magnitude, fits, is_narrow}
 use Rattle.c_widths.specs.Widths.{are_narrow, is_narrow_test, is_narrow_datum, is_narrow_coord, are_narrow_coords}
-use Rattle.c_lowered.specs.Lowered.{Forms}
-use Rattle.c_lowered.specs.LoweredUnit.{in_control, in_condition}
-use Rattle.c_follows.specs.Magnitude.{IsNarrow, AreNarrow}
-use Rattle.c_follows.specs.Simulation.{Declared, IsPlain, ArePlain}
-use Rattle.c_follows.specs.Good.{IsBuffer, IsOpen, IsGood, AreGood, IsGoodOpen, IsGoodDatum, IsGoodTest, IsGoodCoord, AreGoodCoords}
+use Rattle.c_lowering.specs.Made.Lowered.{Forms}
+use Rattle.c_lowering.specs.Made.LoweredUnit.{in_control, in_condition}
+use Rattle.c_unit_laws.specs.Follows.Magnitude.{IsNarrow, AreNarrow}
+use Rattle.c_unit_laws.specs.Follows.Simulation.{Declared, IsPlain, ArePlain}
+use Rattle.c_unit_laws.specs.Follows.Good.{IsBuffer, IsOpen, IsGood, AreGood, IsGoodOpen}
+use Rattle.c_unit_laws.specs.Follows.Good.{IsGoodDatum, IsGoodTest, IsGoodCoord, AreGoodCoords}
 use Rattle.c_unit_laws.proofs.Forms.{Fits, IsForm, number_form, flag_form, buffer_form, stride_form}
 
 -- ---- widths

@@ -6,7 +6,8 @@ use Rattle.exo_tree.specs.Tree.{Kind, Control, Lit, Var, Field, StrideOf, Neg, A
 use Rattle.exo_meaning.specs.Calls.{Callee}
 use Rattle.exo_meaning.specs.Run.{roots_after}
 use Rattle.exo_meaning.specs.Units.{Scope, Reads, plainly, with_fields, with_strides, with_both, is_truth, is_of_literals, is_number_field, is_flag_field, is_control, is_condition, is_of_kind, is_for, are_for, share_nothing_written, is_call, is_write, is_new, is_empty, is_short, scope_after, is_block, is_statement, field_kind}
-use Rattle.c_lowered.specs.LoweredUnit.{in_control, in_condition, in_argument, in_arguments, in_statement, in_block}
+use Rattle.c_lowering.specs.Made.LoweredUnit.{in_control, in_condition, in_argument, in_arguments}
+use Rattle.c_lowering.specs.Made.LoweredUnit.{in_statement, in_block}
 
 -- a field of that number is there
 pub is_there : (fields : List ConfigField) (f : ℕ) → (field_kind fields f ≡ None → ⊥) → nat_lt f (length fields) ≡ true

@@ -3,23 +3,26 @@ use Rattle.std.proofs.Common.{◌≡◌, ◌<◌, ◌==◌, ℕ, zero, suc, nat_
 use Rattle.std.specs.Prelude.{option_map}
 use Rattle.exo_tree.specs.Tree.{Procedure, Program}
 use Rattle.exo_tree.specs.Calls.{calls}
+use Rattle.exo_tree.specs.Named.{name_of}
 use Rattle.exo_meaning.specs.State.{State}
 use Rattle.exo_meaning.specs.Calls.{Callee}
 use Rattle.exo_meaning.specs.Run.{kinds_of}
 use Rattle.exo_meaning.specs.Units.{IsUnit}
 use Rattle.memory_kinds.specs.Faults.{fault_of}
-use Rattle.c_names.specs.Words.{Name, same_name, is_in}
+use Rattle.c_tree.specs.Names.Words.{Name, same_name, is_in}
 use Rattle.c_widths.specs.Few.{Fewness, fewness_of}
-use Rattle.c_machine.specs.CRun.{Behaviour, CWorld, globals_of, file_world}
-use Rattle.c_lowered.specs.Lowered.{param_forms}
-use Rattle.c_lowered.specs.LoweredUnit.{Printing, holes_of, routine_of, function_of, function_at, functions_of, is_listed, counts, name_of, printed_names, global_names, lowered}
-use Rattle.c_follows.specs.Good.{is_function}
-use Rattle.c_follows.specs.Calls.{called_in, IsFollowed}
-use Rattle.c_follows.specs.Templates.{DoesItsBody, TemplatesDoTheirBodies}
-use Rattle.c_follows.specs.Functions.{behaviour_of}
-use Rattle.c_follows.specs.Units.{AreLowered}
-use Rattle.c_follows.specs.Simulation.{Ends}
-use Rattle.c_follows.specs.Grounds.{naming_of, function_in, printed_ground, plain_ground}
+use Rattle.c_unit_laws.specs.Follows.Machine.CRun.{Behaviour, CWorld, globals_of, file_world}
+use Rattle.c_lowering.specs.Made.Lowered.{param_forms}
+use Rattle.c_lowering.specs.Made.LoweredUnit.{Printing, holes_of, routine_of, function_of}
+use Rattle.c_lowering.specs.Made.LoweredUnit.{function_at, functions_of, is_listed, counts}
+use Rattle.c_lowering.specs.Made.LoweredUnit.{printed_names, global_names, lowered}
+use Rattle.c_unit_laws.specs.Follows.Good.{is_function}
+use Rattle.c_unit_laws.specs.Follows.Calls.{called_in, IsFollowed}
+use Rattle.c_unit_laws.specs.Follows.Templates.{DoesItsBody, TemplatesDoTheirBodies}
+use Rattle.c_unit_laws.specs.Follows.Functions.{behaviour_of}
+use Rattle.c_unit_laws.specs.Follows.Units.{AreLowered}
+use Rattle.c_unit_laws.specs.Follows.Simulation.{Ends}
+use Rattle.c_unit_laws.specs.Follows.Grounds.{naming_of, function_in, printed_ground, plain_ground}
 use Rattle.c_unit_laws.proofs.Spelling.{same_self}
 use Rattle.c_unit_laws.proofs.ClearBlocks.{no_template}
 use Rattle.c_unit_laws.proofs.Standing.{none_some, some_same, Stood, stood, calls_before}

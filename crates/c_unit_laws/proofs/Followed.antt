@@ -5,15 +5,15 @@ use Rattle.exo_meaning.specs.State.{State}
 use Rattle.exo_meaning.specs.Calls.{Callee}
 use Rattle.exo_meaning.specs.Run.{callee_in, kinds_of}
 use Rattle.c_widths.specs.Few.{AllocatesFew}
-use Rattle.c_machine.specs.Machine.{Outcome, Done, Fault, NoStore}
-use Rattle.c_machine.specs.CRun.{CWorld}
-use Rattle.c_lowered.specs.Lowered.{Naming, param_forms}
-use Rattle.c_lowered.specs.LoweredUnit.{Printing, field_name, named_field, routine_of}
-use Rattle.c_follows.specs.Simulation.{Follows, Ends}
-use Rattle.c_follows.specs.Calls.{IsFollowed, CallsFollow}
-use Rattle.c_follows.specs.Functions.{behaviour_of}
-use Rattle.c_follows.proofs.WithCalls.{blocks_follow}
-use Rattle.c_follows.specs.Grounds.{world_above, bounds_in, ground_of}
+use Rattle.c_unit_laws.specs.Follows.Machine.Machine.{Outcome, Done, Fault, NoStore}
+use Rattle.c_unit_laws.specs.Follows.Machine.CRun.{CWorld}
+use Rattle.c_lowering.specs.Made.Lowered.{Naming, param_forms}
+use Rattle.c_lowering.specs.Made.LoweredUnit.{Printing, field_name, named_field, routine_of}
+use Rattle.c_unit_laws.specs.Follows.Simulation.{Follows, Ends}
+use Rattle.c_unit_laws.specs.Follows.Calls.{IsFollowed, CallsFollow}
+use Rattle.c_unit_laws.specs.Follows.Functions.{behaviour_of}
+use Rattle.c_unit_laws.proofs.OfFollows.WithCalls.{blocks_follow}
+use Rattle.c_unit_laws.specs.Follows.Grounds.{world_above, bounds_in, ground_of}
 use Rattle.c_unit_laws.specs.Laws.{IsGoodProcedure}
 use Rattle.c_unit_laws.proofs.Fewer.{few_before}
 

@@ -5,8 +5,9 @@ use Rattle.exo_meaning.specs.Scene.{updated}
 use Rattle.exo_meaning.specs.Units.{Sort, ControlName, BufferName, Scope, sort_in, with_name, is_number, is_flag, has_rank, has_dimension, has_cell, is_dense, spans}
 use Rattle.exo_tree.specs.Cells.{same_cell_is}
 use Rattle.memory_kinds.specs.Homes.{Homes}
-use Rattle.c_lowered.specs.Lowered.{Naming, Form, NoForm, NumberForm, TensorForm, WindowForm, Forms}
-use Rattle.c_follows.specs.Good.{HasStride, EndsInSpan, EndsInLanes}
+use Rattle.c_lowering.specs.Made.Lowered.{Naming, Form, NoForm, NumberForm, TensorForm, WindowForm}
+use Rattle.c_lowering.specs.Made.Lowered.{Forms}
+use Rattle.c_unit_laws.specs.Follows.Good.{HasStride, EndsInSpan, EndsInLanes}
 
 -- the lanes of the memory that a name stands in
 abbrev pub lanes_in : Naming → Homes → ℕ → ℕ

@@ -1,7 +1,7 @@
 -- Where no numbered name is a word of C, a renamed binder gets a name that nothing else has.
 use Rattle.std.proofs.Common.{◌≡◌, ◌≤◌, ◌<◌, ◌+◌, ◌^◌, ◌==◌, ◌++◌, ℕ, zero, suc, nat_lt, Bool, true, false, ◌||◌, cond, List, [], ◌∷◌, length, refl, sym, ap, ◌∙◌, subst, arith, true≢false, eqb-true, ◌⊎◌, ⊎_elim, inl, inr}
-use Rattle.c_names.specs.Words.{Name, same_name, is_in, is_word}
-use Rattle.c_names.specs.Names.{pick, numbered, first_free, is_taken}
+use Rattle.c_tree.specs.Names.Words.{Name, same_name, is_in, is_word}
+use Rattle.c_tree.specs.Names.Names.{pick, numbered, first_free, is_taken}
 use Rattle.c_unit_laws.proofs.Spelling.{Small, names_equal, numbered_injective}
 
 pub or_false : (a b : Bool) → (a || b) ≡ false → (a ≡ false) × (b ≡ false)

@@ -6,20 +6,26 @@ use Rattle.exo_meaning.specs.Scene.{updated}
 use Rattle.exo_meaning.specs.Inputs.{is_buffer_of}
 use Rattle.exo_meaning.specs.Units.{IsUnit}
 use Rattle.inplace_laws.specs.CallInPlace.{AreDistinct}
-use Rattle.exo_calls.proofs.Reach.{seeds_are_closed}
+use Rattle.exo_modes.proofs.OfCalls.Reach.{seeds_are_closed}
 use Rattle.memory_kinds.specs.Faults.{fault_of}
-use Rattle.c_names.specs.Words.{Name, same_name, is_in, is_word}
-use Rattle.c_names.specs.Binders.{binders_in, binders_of, param_binders, all_binders}
-use Rattle.c_names.specs.Clash.{first_clash}
+use Rattle.c_tree.specs.Names.Words.{Name, same_name, is_in, is_word}
+use Rattle.c_tree.specs.Names.Binders.{binders_in, binders_of, param_binders, all_binders}
+use Rattle.c_tree.specs.Names.Clash.{first_clash}
 use Rattle.c_tree.specs.CTree.{Actual, Element, Number64, Piece, CStatement, Free, CBlock, stop, first, followed_by, CFunction}
-use Rattle.c_machine.specs.CRun.{names_of_functions}
-use Rattle.c_lowered.specs.Lowered.{Hole, Memory, Naming, Form, NoForm, NumberForm, TensorForm, WindowForm, Forms, forms_after, cell_in, at_spans, strides_in, param_forms, before, block_of, called_by, piece_of, actuals_of, allocated, element_of, stack_count, product_of, dims_of, without_lanes, is_empty}
-use Rattle.c_lowered.specs.LoweredUnit.{Printing, formal_of, formals_of, function_of, function_at, functions_of, is_listed, global_names, lowered}
-use Rattle.c_follows.specs.Simulation.{Ground}
-use Rattle.c_follows.specs.Good.{IsFresh, IsGoodBlock, AreNamedApart}
-use Rattle.c_follows.specs.Grounds.{bounds_in, naming_of, printed_ground}
-use Rattle.c_follows.specs.Units.{AreLowered}
-use Rattle.c_follows.proofs.Bound.{param_there}
+use Rattle.c_unit_laws.specs.Follows.Machine.CRun.{names_of_functions}
+use Rattle.c_lowering.specs.Made.Lowered.{Hole, Memory, Naming, Form, NoForm, NumberForm}
+use Rattle.c_lowering.specs.Made.Lowered.{TensorForm, WindowForm, Forms, forms_after, cell_in}
+use Rattle.c_lowering.specs.Made.Lowered.{at_spans, strides_in, param_forms, before, block_of}
+use Rattle.c_lowering.specs.Made.Lowered.{called_by, piece_of, actuals_of, allocated, element_of}
+use Rattle.c_lowering.specs.Made.Lowered.{stack_count, product_of, dims_of, without_lanes, is_empty}
+use Rattle.c_lowering.specs.Made.LoweredUnit.{Printing, formal_of, formals_of, function_of}
+use Rattle.c_lowering.specs.Made.LoweredUnit.{function_at, functions_of, is_listed, global_names}
+use Rattle.c_lowering.specs.Made.LoweredUnit.{lowered}
+use Rattle.c_unit_laws.specs.Follows.Simulation.{Ground}
+use Rattle.c_unit_laws.specs.Follows.Good.{IsFresh, IsGoodBlock, AreNamedApart}
+use Rattle.c_unit_laws.specs.Follows.Grounds.{bounds_in, naming_of, printed_ground}
+use Rattle.c_unit_laws.specs.Follows.Units.{AreLowered}
+use Rattle.c_unit_laws.proofs.OfFollows.Bound.{param_there}
 use Rattle.c_unit_laws.specs.FreeNames.{is_free, are_free, declared_by, declares_free, step_declares_free, formal_name, formals_are_free, file_names, NamesAreFree, PrintedNamesAreFree}
 use Rattle.c_unit_laws.proofs.Spelling.{names_equal, same_self}
 use Rattle.c_unit_laws.proofs.Free.{or_false}

@@ -1,13 +1,17 @@
 -- The functions and fields of a file by their names.
 use Rattle.std.proofs.Common.{◌≡◌, ◌<◌, ℕ, zero, suc, Bool, true, false, ◌||◌, cond, List, [], ◌∷◌, ◌++◌, take, Option, Some, None, refl, sym, ap, ◌∙◌, subst, true≢false, slice_get}
 use Rattle.exo_tree.specs.Tree.{Procedure, Program}
-use Rattle.c_names.specs.Words.{Name, same_name, is_in, is_word}
-use Rattle.c_names.specs.Clash.{first_clash}
+use Rattle.exo_tree.specs.Named.{name_of}
+use Rattle.c_tree.specs.Names.Words.{Name, same_name, is_in, is_word}
+use Rattle.c_tree.specs.Names.Clash.{first_clash}
 use Rattle.c_tree.specs.CTree.{CFunction}
-use Rattle.c_machine.specs.Machine.{Thing, IsField, IsFunction, named}
-use Rattle.c_machine.specs.CRun.{Behaviour, CWorld, behaviour, all_named, names_of_functions, globals_of, with_functions}
-use Rattle.c_lowered.specs.LoweredUnit.{Printing, field_name, named_field, name_of, function_at, functions_of, printed_names, fields_of, global_names, lowered}
-use Rattle.c_follows.specs.Grounds.{declared_in, function_in}
+use Rattle.c_unit_laws.specs.Follows.Machine.Machine.{Thing, IsField, IsFunction, named}
+use Rattle.c_unit_laws.specs.Follows.Machine.CRun.{Behaviour, CWorld, behaviour, all_named}
+use Rattle.c_unit_laws.specs.Follows.Machine.CRun.{names_of_functions, globals_of, with_functions}
+use Rattle.c_lowering.specs.Made.LoweredUnit.{Printing, field_name, named_field}
+use Rattle.c_lowering.specs.Made.LoweredUnit.{function_at, functions_of, printed_names, fields_of}
+use Rattle.c_lowering.specs.Made.LoweredUnit.{global_names, lowered}
+use Rattle.c_unit_laws.specs.Follows.Grounds.{declared_in, function_in}
 use Rattle.c_unit_laws.proofs.Spelling.{same_self, names_equal}
 use Rattle.c_unit_laws.proofs.Free.{or_false}
 use Rattle.c_unit_laws.proofs.Names.{clash_parts, in_front, in_rear, field_listed}

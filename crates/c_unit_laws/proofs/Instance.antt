@@ -4,11 +4,11 @@ use Rattle.exo_tree.specs.Tree.{Procedure, Program}
 use Rattle.exo_tree.specs.Calls.{calls}
 use Rattle.exo_meaning.specs.Units.{IsUnit}
 use Rattle.memory_kinds.specs.Faults.{fault_of}
-use Rattle.c_names.specs.Words.{is_word}
-use Rattle.c_lowered.specs.LoweredUnit.{Printing, is_listed, global_names}
-use Rattle.c_names.specs.Clash.{first_clash}
-use Rattle.c_lowered.specs.Examples.{fill, col, load8, store8, copy8, vector_program}
-use Rattle.c_follows.specs.Units.{IsListing, AreLowered}
+use Rattle.c_tree.specs.Names.Words.{is_word}
+use Rattle.c_lowering.specs.Made.LoweredUnit.{Printing, is_listed, global_names}
+use Rattle.c_tree.specs.Names.Clash.{first_clash}
+use Rattle.c_lowering.specs.Made.Examples.{fill, col, load8, store8, copy8, vector_program}
+use Rattle.c_unit_laws.specs.Follows.Units.{IsListing, AreLowered}
 use Rattle.c_unit_laws.specs.Instance.{filling, column_program, both_printed, ColumnsHaveC, copy_printed, VectorsHaveC}
 use Rattle.c_unit_laws.proofs.Standing.{some_same}
 use Rattle.c_unit_laws.proofs.Listed.{no_entry}

@@ -33,3 +33,4 @@ pub mod Listings
 pub mod ColumnRun
 pub mod OfUndeclared
 pub mod OfClosedRuns
+pub mod OfFollows

@@ -5,11 +5,13 @@ use Rattle.std.proofs.lemmas.Map.Steps.{length-le_from_distinct_below}
 use Rattle.std.proofs.lemmas.Bool.{and_parts}
 use Rattle.exo_tree.specs.Tree.{Binder, Control, Procedure, Program, ConfigField, MemoryKind}
 use Rattle.exo_meaning.specs.Units.{bound_ids, are_distinct}
-use Rattle.c_names.specs.Binders.{all_binders, names_of}
+use Rattle.c_tree.specs.Names.Binders.{all_binders, names_of}
 use Rattle.c_widths.specs.Widths.{fits_cells, own_dims, fits_stack}
 use Rattle.c_widths.specs.Raises.{memories_for, most_at, is_narrow_by, is_wide_at, or_own, widest_from}
-use Rattle.c_lowered.specs.Lowered.{front, without_lanes}
-use Rattle.c_lowered.specs.LoweredUnit.{Printing, memory_of, in_procedure, is_listed, is_used_from, printed_names, field_name, fields_from, fields_of, is_used, global_names}
+use Rattle.c_lowering.specs.Made.Lowered.{front, without_lanes}
+use Rattle.c_lowering.specs.Made.LoweredUnit.{Printing, memory_of, in_procedure, is_listed}
+use Rattle.c_lowering.specs.Made.LoweredUnit.{is_used_from, printed_names, field_name, fields_from}
+use Rattle.c_lowering.specs.Made.LoweredUnit.{fields_of, is_used, global_names}
 use Rattle.c_unit_laws.proofs.Free.{or_false, room, both_long}
 use Rattle.c_unit_laws.proofs.Binders.{not_true}
 use Rattle.c_unit_laws.proofs.Names.{all_ids}

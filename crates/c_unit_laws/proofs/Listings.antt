@@ -3,10 +3,10 @@ use Rattle.std.proofs.Common.{◌≡◌, ◌<◌, ◌+◌, ℕ, zero, suc, Bool,
 use Rattle.std.proofs.lemmas.Bool.{and_parts, and_from}
 use Rattle.exo_tree.specs.Tree.{Procedure}
 use Rattle.exo_tree.specs.Calls.{calls}
-use Rattle.exo_calls.specs.Closed.{closed}
-use Rattle.exo_calls.specs.Passed.{is_function}
-use Rattle.exo_calls.proofs.Reach.{seeds_are_closed, closed_is_closed}
-use Rattle.c_lowered.specs.LoweredUnit.{Printing, is_listed}
+use Rattle.exo_modes.specs.Calls.Closed.{closed}
+use Rattle.exo_modes.specs.Calls.Passed.{is_function}
+use Rattle.exo_modes.proofs.OfCalls.Reach.{seeds_are_closed, closed_is_closed}
+use Rattle.c_lowering.specs.Made.LoweredUnit.{Printing, is_listed}
 use Rattle.c_unit_laws.specs.Listings.{printings_from, printings, PrintingsAreListings, EmittedArePrinted}
 use Rattle.c_unit_laws.proofs.Standing.{none_some, some_same, calls_before}
 

@@ -9,9 +9,9 @@ use Rattle.exo_meaning.specs.Units.{has_type, is_memory}
 use Rattle.memory_kinds.specs.declared.error.KindError.{KindError}
 use Rattle.memory_kinds.specs.Homes.{Homes}
 use Rattle.memory_kinds.specs.Faults.{fault_where, or_first, is_literal, is_literal_of, are_literals, last_is_literal, is_full_span, last_is_full, has_lanes, takes, param_fault, alloc_fault, read_fault, write_fault, reduce_fault, view_fault, window_fault, in_memory, reads_fault, given_fault, argument_fault, arguments_fault, kind_fault, params_fault}
-use Rattle.c_lowered.specs.Lowered.{Memory, Naming}
-use Rattle.c_lowered.specs.LoweredUnit.{memory_of}
-use Rattle.c_follows.specs.Good.{EndsInSpan, EndsInLanes, AreLiterals}
+use Rattle.c_lowering.specs.Made.Lowered.{Memory, Naming}
+use Rattle.c_lowering.specs.Made.LoweredUnit.{memory_of}
+use Rattle.c_unit_laws.specs.Follows.Good.{EndsInSpan, EndsInLanes, AreLiterals}
 use Rattle.c_unit_laws.proofs.Forms.{lanes_in}
 use Rattle.c_unit_laws.proofs.Expressions.{ReadsCells}
 use Rattle.c_unit_laws.proofs.Clear.{IsClearBuffer, IsClearArgument, AreClearArguments, SuitsMemory, IsClearKind, AreClearParams}

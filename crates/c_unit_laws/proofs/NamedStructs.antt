@@ -12,12 +12,23 @@ use Rattle.exo_meaning.specs.Run.{roots_after}
 use Rattle.exo_meaning.specs.Units.{ControlName, Scope, with_name, scope_of, scope_after, param_sort, is_new, is_rank, is_control, plainly, is_short, is_empty as is_empty_block, same_cell, spans, field_kind, is_param_kind, are_params, is_block, is_statement, IsUnit}
 use Rattle.memory_kinds.specs.Faults.{fault_of}
 use Rattle.c_tree.specs.CTree.{Name, Number64, Actual, Element, Piece, CStatement, Free, CBlock, stop, first, followed_by, CFunction, StructOf}
-use Rattle.c_lowered.specs.Lowered.{Hole, Naming, Form, NoForm, NumberForm, TensorForm, WindowForm, Forms, form_of, param_forms, forms_after, whole_window, strides_in, row_strides, at_spans, dims_of, cell_in, actual_of, actuals_of, piece_of, called_by, allocated, element_of, stack_count, product_of, without_lanes, is_empty, block_of}
-use Rattle.c_lowered.specs.LoweredUnit.{Printing, routine_of, formal_of, formals_of, function_of, function_at, functions_of, is_struct, in_actual, struct_in_block, struct_in, in_formal, names_struct, struct_at, structs_of_rank, structs_from, all_structs, kept_structs, is_listed, global_names, lowered}
-use Rattle.c_follows.specs.Simulation.{Ground}
-use Rattle.c_follows.specs.Good.{IsAnyBuffer, IsGoodBlock, IsGoodArgument, AreGoodArguments, is_function}
-use Rattle.c_follows.specs.Grounds.{bounds_in, naming_of, world_above, printed_ground}
-use Rattle.c_follows.specs.Units.{AreLowered}
+use Rattle.c_lowering.specs.Made.Lowered.{Hole, Naming, Form, NoForm, NumberForm, TensorForm}
+use Rattle.c_lowering.specs.Made.Lowered.{WindowForm, Forms, form_of, param_forms, forms_after}
+use Rattle.c_lowering.specs.Made.Lowered.{whole_window, strides_in, row_strides, at_spans, dims_of}
+use Rattle.c_lowering.specs.Made.Lowered.{cell_in, actual_of, actuals_of, piece_of, called_by}
+use Rattle.c_lowering.specs.Made.Lowered.{allocated, element_of, stack_count, product_of}
+use Rattle.c_lowering.specs.Made.Lowered.{without_lanes, is_empty, block_of}
+use Rattle.c_lowering.specs.Made.LoweredUnit.{Printing, routine_of, formal_of, formals_of}
+use Rattle.c_lowering.specs.Made.LoweredUnit.{function_of, function_at, functions_of, is_struct}
+use Rattle.c_lowering.specs.Made.LoweredUnit.{in_actual, struct_in_block, struct_in, in_formal}
+use Rattle.c_lowering.specs.Made.LoweredUnit.{names_struct, struct_at, structs_of_rank}
+use Rattle.c_lowering.specs.Made.LoweredUnit.{structs_from, all_structs, kept_structs, is_listed}
+use Rattle.c_lowering.specs.Made.LoweredUnit.{global_names, lowered}
+use Rattle.c_unit_laws.specs.Follows.Simulation.{Ground}
+use Rattle.c_unit_laws.specs.Follows.Good.{IsAnyBuffer, IsGoodBlock, IsGoodArgument}
+use Rattle.c_unit_laws.specs.Follows.Good.{AreGoodArguments, is_function}
+use Rattle.c_unit_laws.specs.Follows.Grounds.{bounds_in, naming_of, world_above, printed_ground}
+use Rattle.c_unit_laws.specs.Follows.Units.{AreLowered}
 use Rattle.c_unit_laws.specs.FreeNames.{NamedStructsArePrinted}
 use Rattle.c_unit_laws.proofs.Blocks.{span_count, window_count, row_count, dims_count}
 use Rattle.c_unit_laws.proofs.FreeNames.{or_parts, function_of_list}

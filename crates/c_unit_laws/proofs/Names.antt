@@ -5,13 +5,15 @@ use Rattle.std.proofs.lemmas.Bool.{and_parts}
 use Rattle.exo_tree.specs.Tree.{Binder, Param, Statement, Assign, Reduce, Config, Pass, If, For, Alloc, View, Call, Block, end, next, Procedure, ConfigField, Program}
 use Rattle.exo_meaning.specs.Binders.{binders, step_binders}
 use Rattle.exo_meaning.specs.Units.{is_text, bound_ids, are_distinct}
-use Rattle.c_names.specs.Words.{Name, same_name, is_in, is_word}
-use Rattle.c_names.specs.Names.{c_name}
-use Rattle.c_names.specs.Binders.{binders_in, binders_of, param_binders, all_binders, names_of, called, c_names, name_in}
-use Rattle.c_names.specs.Clash.{clashing, first_clash}
-use Rattle.c_lowered.specs.LoweredUnit.{Printing, field_name, named_field, is_used, fields_from, fields_of, printed_names, global_names}
-use Rattle.c_follows.specs.Simulation.{Ground}
-use Rattle.c_follows.specs.Grounds.{declared_in, function_in}
+use Rattle.c_tree.specs.Names.Words.{Name, same_name, is_in, is_word}
+use Rattle.c_tree.specs.Names.Names.{c_name}
+use Rattle.c_tree.specs.Names.Binders.{binders_in, binders_of, param_binders, all_binders, names_of}
+use Rattle.c_tree.specs.Names.Binders.{called, c_names, name_in}
+use Rattle.c_tree.specs.Names.Clash.{clashing, first_clash}
+use Rattle.c_lowering.specs.Made.LoweredUnit.{Printing, field_name, named_field, is_used}
+use Rattle.c_lowering.specs.Made.LoweredUnit.{fields_from, fields_of, printed_names, global_names}
+use Rattle.c_unit_laws.specs.Follows.Simulation.{Ground}
+use Rattle.c_unit_laws.specs.Follows.Grounds.{declared_in, function_in}
 use Rattle.c_unit_laws.proofs.Spelling.{same_self, differ}
 use Rattle.c_unit_laws.proofs.Free.{or_false, room}
 use Rattle.c_unit_laws.proofs.Apart.{no_word, names_apart, no_global}

@@ -5,11 +5,12 @@ use Rattle.exo_tree.specs.Tree.{Kind, Binder, Cell, Control, Lit, Var, Field, St
 use Rattle.exo_meaning.specs.Scene.{updated}
 use Rattle.exo_meaning.specs.Units.{Sort, BufferName, Scope, sort_in, is_new, with_name, param_sort, scope_of, plainly, are_controls, is_param_kind, are_params}
 use Rattle.memory_kinds.specs.Homes.{Homes, with_param, with_params}
-use Rattle.c_names.specs.Binders.{param_binders}
+use Rattle.c_tree.specs.Names.Binders.{param_binders}
 use Rattle.c_widths.specs.Widths.{has_narrow_dims, have_narrow_dims}
-use Rattle.c_lowered.specs.Lowered.{Naming, NoForm, NumberForm, TensorForm, Forms, form_of, param_forms}
-use Rattle.c_follows.specs.Simulation.{Ground, IsPlain, ArePlain}
-use Rattle.c_follows.specs.Good.{IsGoodParam, AreGoodParams}
+use Rattle.c_lowering.specs.Made.Lowered.{Naming, NoForm, NumberForm, TensorForm, Forms, form_of}
+use Rattle.c_lowering.specs.Made.Lowered.{param_forms}
+use Rattle.c_unit_laws.specs.Follows.Simulation.{Ground, IsPlain, ArePlain}
+use Rattle.c_unit_laws.specs.Follows.Good.{IsGoodParam, AreGoodParams}
 use Rattle.c_unit_laws.proofs.Forms.{lanes_in, Stands, Fits, wider, wider_number}
 use Rattle.c_unit_laws.proofs.Expressions.{all_plain, all_narrow}
 use Rattle.c_unit_laws.proofs.Clear.{IsClearKind, AreClearParams}

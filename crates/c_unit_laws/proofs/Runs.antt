@@ -8,15 +8,15 @@ use Rattle.exo_meaning.specs.Scene.{Shape, where_true, is_below, whole}
 use Rattle.exo_meaning.specs.Orders.{Each}
 use Rattle.exo_meaning.specs.Run.{product, tensor, program_world}
 use Rattle.exo_meaning.specs.Inputs.{IsValid, IsBetween, IsIndex, FitsCell, offset, is_buffer_of}
-use Rattle.c_names.specs.Words.{is_word}
-use Rattle.c_machine.specs.Machine.{Outcome, Machine}
-use Rattle.c_machine.specs.CRun.{run_file}
-use Rattle.c_lowered.specs.LoweredUnit.{is_used, lowered}
-use Rattle.c_lowered.specs.Examples.{copy8, vector_program}
-use Rattle.c_follows.specs.SameInput.{AreSeparate}
-use Rattle.c_follows.specs.Grounds.{declared_in}
-use Rattle.c_follows.specs.Units.{IsSameStart}
-use Rattle.c_follows.proofs.Instance.{machine_of}
+use Rattle.c_tree.specs.Names.Words.{is_word}
+use Rattle.c_unit_laws.specs.Follows.Machine.Machine.{Outcome, Machine}
+use Rattle.c_unit_laws.specs.Follows.Machine.CRun.{run_file}
+use Rattle.c_lowering.specs.Made.LoweredUnit.{is_used, lowered}
+use Rattle.c_lowering.specs.Made.Examples.{copy8, vector_program}
+use Rattle.c_unit_laws.specs.Follows.SameInput.{AreSeparate}
+use Rattle.c_unit_laws.specs.Follows.Grounds.{declared_in}
+use Rattle.c_unit_laws.specs.Follows.Units.{IsSameStart}
+use Rattle.c_unit_laws.proofs.OfFollows.Instance.{machine_of}
 use Rattle.c_unit_laws.specs.Instance.{copy_printed}
 use Rattle.c_unit_laws.specs.Runs.{by_argument, eight_long, input, layout, object, machine, things, templates, VectorsRun}
 use Rattle.c_unit_laws.proofs.Standing.{none_some, some_same}

@@ -7,7 +7,7 @@ use Rattle.exo_meaning.specs.Inputs.{is_buffer_of, IsBounded, HasBounds, AreBoun
 use Rattle.inplace_laws.specs.CallInPlace.{AreDistinct}
 use Rattle.c_widths.specs.Widths.{most_of_kind, most_of_param}
 use Rattle.c_widths.specs.Raises.{most_from}
-use Rattle.c_follows.specs.Functions.{IsSmall, AreSmall}
+use Rattle.c_unit_laws.specs.Follows.Functions.{IsSmall, AreSmall}
 use Rattle.c_unit_laws.proofs.Given.{later_bound}
 
 -- as in c_widths/proofs/Starts

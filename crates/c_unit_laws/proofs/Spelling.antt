@@ -5,8 +5,8 @@ use Rattle.std.specs.Str.Parse.{AllDigits}
 use Rattle.std.proofs.lemmas.Fmt.{decimal_is_IsNumeral, decimal_injective}
 use Rattle.std.proofs.lemmas.Str.Parse.{digit_from_value}
 use Rattle.std.proofs.lemmas.Bool.{and_parts, and_from}
-use Rattle.c_names.specs.Words.{Name, same_name, is_own}
-use Rattle.c_names.specs.Names.{numbered, pick}
+use Rattle.c_tree.specs.Names.Words.{Name, same_name, is_own}
+use Rattle.c_tree.specs.Names.Names.{numbered, pick}
 
 -- ---- equal names
 

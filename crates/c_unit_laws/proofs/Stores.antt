@@ -7,8 +7,8 @@ use Rattle.exo_meaning.specs.State.{State, on_scene, with_control}
 use Rattle.exo_meaning.specs.Calls.{Callee}
 use Rattle.exo_meaning.specs.Run.{World, turn, turns_of, run, world_of, callee_in, callees, unit_world, kinds_of}
 use Rattle.exo_meaning.specs.Units.{IsUnit}
-use Rattle.exo_calls.specs.Closed.{closed}
-use Rattle.exo_calls.proofs.Reach.{seeds_are_closed, closed_is_closed}
+use Rattle.exo_modes.specs.Calls.Closed.{closed}
+use Rattle.exo_modes.proofs.OfCalls.Reach.{seeds_are_closed, closed_is_closed}
 use Rattle.c_widths.specs.Laws.{EachTurn}
 use Rattle.c_widths.specs.Few.{Fewness, CallAllocatesFew, AllocatesFew, StatementAllocatesFew, one_of, no_fewness, fewness_from, fewness_of}
 use Rattle.c_unit_laws.specs.Stores.{allocates, step_allocates, none_allocates, allocates_nothing, FilesWithoutAllocationsAreDone}

@@ -10,17 +10,17 @@ use Rattle.exo_meaning.specs.Scene.{Scene, Side, Point, Range, extents, strides_
 use Rattle.exo_meaning.specs.State.{State}
 use Rattle.exo_meaning.specs.Calls.{all_hold}
 use Rattle.exo_meaning.specs.Run.{run}
-use Rattle.c_names.specs.Words.{Name, is_word}
+use Rattle.c_tree.specs.Names.Words.{Name, is_word}
 use Rattle.c_widths.specs.Few.{fewness_of}
-use Rattle.c_machine.specs.Machine.{Outcome, Thing, Machine, where_good}
-use Rattle.c_machine.specs.CRun.{Behaviour, run_file}
-use Rattle.c_lowered.specs.Lowered.{Naming, Forms, param_forms}
-use Rattle.c_lowered.specs.LoweredUnit.{Printing, lowered}
-use Rattle.c_lowered.specs.Examples.{load8, store8, copy8, vector_program}
-use Rattle.c_follows.specs.Simulation.{Follows, Ends, Layout, Matches, IsWindowName}
-use Rattle.c_follows.specs.Grounds.{world_above, bounds_in, plain_naming, plain_ground}
-use Rattle.c_follows.specs.Templates.{DoesItsBody, TemplatesDoTheirBodies}
-use Rattle.c_follows.proofs.Instance.{machine_of}
+use Rattle.c_unit_laws.specs.Follows.Machine.Machine.{Outcome, Thing, Machine, where_good}
+use Rattle.c_unit_laws.specs.Follows.Machine.CRun.{Behaviour, run_file}
+use Rattle.c_lowering.specs.Made.Lowered.{Naming, Forms, param_forms}
+use Rattle.c_lowering.specs.Made.LoweredUnit.{Printing, lowered}
+use Rattle.c_lowering.specs.Made.Examples.{load8, store8, copy8, vector_program}
+use Rattle.c_unit_laws.specs.Follows.Simulation.{Follows, Ends, Layout, Matches, IsWindowName}
+use Rattle.c_unit_laws.specs.Follows.Grounds.{world_above, bounds_in, plain_naming, plain_ground}
+use Rattle.c_unit_laws.specs.Follows.Templates.{DoesItsBody, TemplatesDoTheirBodies}
+use Rattle.c_unit_laws.proofs.OfFollows.Instance.{machine_of}
 use Rattle.c_unit_laws.specs.Instance.{copy_printed}
 use Rattle.c_unit_laws.specs.Runs.{machine, things, templates}
 use Rattle.c_unit_laws.specs.StrictTemplates.{is_one, is_dense, strictly, strict, spread, run_of, StrictTemplatesRun}

@@ -8,20 +8,23 @@ use Rattle.exo_meaning.specs.Run.{World, kinds_of}
 use Rattle.exo_meaning.specs.Units.{sort_in, scope_of, field_kind, is_text, all_differ, is_memory, IsProcedure, IsUnit}
 use Rattle.meaning_laws.proofs.FirstState.{Differ, params_differ}
 use Rattle.inplace_laws.specs.CallInPlace.{AreDistinct}
-use Rattle.exo_calls.proofs.Reach.{seeds_are_closed}
+use Rattle.exo_modes.proofs.OfCalls.Reach.{seeds_are_closed}
 use Rattle.memory_kinds.specs.Homes.{param_homes}
 use Rattle.memory_kinds.specs.Faults.{fault_of, params_fault, block_fault, procedure_fault}
-use Rattle.c_names.specs.Words.{is_in, is_word}
-use Rattle.c_names.specs.Binders.{all_binders, param_binders, binders_in, c_names, name_in}
+use Rattle.c_tree.specs.Names.Words.{is_in, is_word}
+use Rattle.c_tree.specs.Names.Binders.{all_binders, param_binders, binders_in, c_names, name_in}
 use Rattle.c_widths.proofs.Covered.{raises_cover}
 use Rattle.c_widths.specs.Widths.{have_narrow_dims, are_narrow_tests, is_narrow_block, fits_cells, fits_stack}
 use Rattle.c_widths.specs.Raises.{IsCovered, Raises, most_at, given_to, memories_for}
-use Rattle.c_lowered.specs.Lowered.{Naming, without_lanes, param_forms}
-use Rattle.c_lowered.specs.LoweredUnit.{Printing, routine_of, field_name, named_field, in_block, in_conditions, is_listed, counts, is_used, global_names}
-use Rattle.c_follows.specs.Simulation.{Ground}
-use Rattle.c_follows.specs.Good.{IsGoodBlock, AreGoodParams}
-use Rattle.c_follows.specs.Units.{AreLowered}
-use Rattle.c_follows.specs.Grounds.{declared_in, naming_of, world_above, bounds_by, bounds_in, ground_of, plain_naming}
+use Rattle.c_lowering.specs.Made.Lowered.{Naming, without_lanes, param_forms}
+use Rattle.c_lowering.specs.Made.LoweredUnit.{Printing, routine_of, field_name, named_field}
+use Rattle.c_lowering.specs.Made.LoweredUnit.{in_block, in_conditions, is_listed, counts, is_used}
+use Rattle.c_lowering.specs.Made.LoweredUnit.{global_names}
+use Rattle.c_unit_laws.specs.Follows.Simulation.{Ground}
+use Rattle.c_unit_laws.specs.Follows.Good.{IsGoodBlock, AreGoodParams}
+use Rattle.c_unit_laws.specs.Follows.Units.{AreLowered}
+use Rattle.c_unit_laws.specs.Follows.Grounds.{declared_in, naming_of, world_above, bounds_by}
+use Rattle.c_unit_laws.specs.Follows.Grounds.{bounds_in, ground_of, plain_naming}
 use Rattle.c_unit_laws.specs.Laws.{IsGoodProcedure, PrintedProceduresAreGood, BodiesAreGood}
 use Rattle.c_unit_laws.proofs.Forms.{lanes_in, Stands, Fits}
 use Rattle.c_unit_laws.proofs.Clear.{IsClear, AreClearParams, plain_is_clear, plain_params}

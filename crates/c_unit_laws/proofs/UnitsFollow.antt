@@ -10,19 +10,20 @@ use Rattle.exo_meaning.specs.Units.{IsUnit}
 use Rattle.meaning_laws.specs.Grown.{calls_below}
 use Rattle.meaning_laws.proofs.Grown.{grown_law}
 use Rattle.meaning_laws.proofs.WellFormed.{calls_are_below}
-use Rattle.exo_calls.proofs.Reach.{seeds_are_closed}
+use Rattle.exo_modes.proofs.OfCalls.Reach.{seeds_are_closed}
 use Rattle.memory_kinds.specs.Faults.{fault_of}
 use Rattle.c_widths.specs.Raises.{given_to}
 use Rattle.c_widths.specs.Few.{fewness_of}
-use Rattle.c_machine.specs.Machine.{Outcome, Done, Fault, NoStore, Thing, Machine}
-use Rattle.c_machine.specs.CRun.{Behaviour, behaviour, run_in_place, run_file}
-use Rattle.c_lowered.specs.LoweredUnit.{Printing, is_listed, counts, lowered}
-use Rattle.c_follows.specs.Simulation.{Ground, Follows, Layout}
-use Rattle.c_follows.specs.Templates.{TemplatesDoTheirBodies}
-use Rattle.c_follows.specs.Functions.{behaviour_of, AreSmall}
-use Rattle.c_follows.specs.Units.{AreLowered, IsSameStart, LeavesTheSame, EndsWell}
-use Rattle.c_follows.proofs.Functions.{functions_follow}
-use Rattle.c_follows.specs.Grounds.{declared_in, naming_of, world_above, bounds_by, bounds_in, printed_ground}
+use Rattle.c_unit_laws.specs.Follows.Machine.Machine.{Outcome, Done, Fault, NoStore, Thing, Machine}
+use Rattle.c_unit_laws.specs.Follows.Machine.CRun.{Behaviour, behaviour, run_in_place, run_file}
+use Rattle.c_lowering.specs.Made.LoweredUnit.{Printing, is_listed, counts, lowered}
+use Rattle.c_unit_laws.specs.Follows.Simulation.{Ground, Follows, Layout}
+use Rattle.c_unit_laws.specs.Follows.Templates.{TemplatesDoTheirBodies}
+use Rattle.c_unit_laws.specs.Follows.Functions.{behaviour_of, AreSmall}
+use Rattle.c_unit_laws.specs.Follows.Units.{AreLowered, IsSameStart, LeavesTheSame, EndsWell}
+use Rattle.c_unit_laws.proofs.OfFollows.Functions.{functions_follow}
+use Rattle.c_unit_laws.specs.Follows.Grounds.{declared_in, naming_of, world_above, bounds_by}
+use Rattle.c_unit_laws.specs.Follows.Grounds.{bounds_in, printed_ground}
 use Rattle.c_unit_laws.specs.Laws.{IsGoodProcedure, FilesFollow}
 use Rattle.c_unit_laws.proofs.Standing.{formed_at, table_count}
 use Rattle.c_unit_laws.proofs.Small.{small_params}

@@ -7,13 +7,13 @@ use Rattle.exo_meaning.specs.Scene.{whole}
 use Rattle.exo_meaning.specs.State.{State}
 use Rattle.exo_meaning.specs.Run.{tensor, program_world}
 use Rattle.exo_meaning.specs.Inputs.{IsValid, run_procedure}
-use Rattle.c_machine.specs.Machine.{Done, Thing, IsNumber, IsArray, Machine}
-use Rattle.c_machine.specs.CRun.{Behaviour, run_file}
-use Rattle.c_lowered.specs.LoweredUnit.{lowered}
-use Rattle.c_lowered.specs.Examples.{printed, col, vector_program}
-use Rattle.c_follows.specs.Simulation.{Layout}
-use Rattle.c_follows.specs.Templates.{TemplatesDoTheirBodies}
-use Rattle.c_follows.specs.Units.{IsSameStart}
+use Rattle.c_unit_laws.specs.Follows.Machine.Machine.{Done, Thing, IsNumber, IsArray, Machine}
+use Rattle.c_unit_laws.specs.Follows.Machine.CRun.{Behaviour, run_file}
+use Rattle.c_lowering.specs.Made.LoweredUnit.{lowered}
+use Rattle.c_lowering.specs.Made.Examples.{printed, col, vector_program}
+use Rattle.c_unit_laws.specs.Follows.Simulation.{Layout}
+use Rattle.c_unit_laws.specs.Follows.Templates.{TemplatesDoTheirBodies}
+use Rattle.c_unit_laws.specs.Follows.Units.{IsSameStart}
 use Rattle.c_unit_laws.specs.Stores.{allocates_nothing}
 use Rattle.c_unit_laws.specs.Listings.{printings}
 use Rattle.c_unit_laws.specs.Instance.{filling, column_program, both_printed}

@@ -4,13 +4,13 @@ use Rattle.std.specs.List.{list_any}
 use Rattle.exo_tree.specs.Tree.{Program}
 use Rattle.exo_meaning.specs.Units.{IsUnit}
 use Rattle.memory_kinds.specs.Faults.{fault_of}
-use Rattle.c_names.specs.Words.{Name, is_in, is_word}
+use Rattle.c_tree.specs.Names.Words.{Name, is_in, is_word}
 use Rattle.c_tree.specs.CTree.{CStatement, Branch, Loop, Array, Malloc, Bind, CBlock, stop, first}
 use Rattle.c_tree.specs.CTree.{Formal, Number64Param, ArrayParam, WindowParamOf, CFunction}
 use Rattle.c_tree.specs.CTree.{StructOf, CUnit}
-use Rattle.c_machine.specs.CRun.{names_of_functions}
-use Rattle.c_lowered.specs.LoweredUnit.{Printing, is_struct, names_struct, lowered}
-use Rattle.c_follows.specs.Units.{AreLowered}
+use Rattle.c_unit_laws.specs.Follows.Machine.CRun.{names_of_functions}
+use Rattle.c_lowering.specs.Made.LoweredUnit.{Printing, is_struct, names_struct, lowered}
+use Rattle.c_unit_laws.specs.Follows.Units.{AreLowered}
 
 -- no word, and none of the names that are declared around it
 abbrev pub is_free : List Name → Name → Bool

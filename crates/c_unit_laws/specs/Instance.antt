@@ -3,9 +3,9 @@ use Rattle.std.specs.Prelude.{List, [], ◌∷◌, codes}
 use Rattle.exo_tree.specs.Tree.{Var, ControlArg, Window, Call, Block, end, next, Program}
 use Rattle.exo_meaning.specs.Units.{IsUnit}
 use Rattle.memory_kinds.specs.Faults.{fault_of}
-use Rattle.c_lowered.specs.LoweredUnit.{Printing}
-use Rattle.c_lowered.specs.Examples.{printed, fill, col, last_column, dram, vector_program}
-use Rattle.c_follows.specs.Units.{AreLowered}
+use Rattle.c_lowering.specs.Made.LoweredUnit.{Printing}
+use Rattle.c_lowering.specs.Made.Examples.{printed, fill, col, last_column, dram, vector_program}
+use Rattle.c_unit_laws.specs.Follows.Units.{AreLowered}
 
 -- fill(M, A[0:M, N - 1])
 abbrev pub filling : Block

@@ -5,14 +5,14 @@ use Rattle.exo_meaning.specs.Run.{World}
 use Rattle.exo_meaning.specs.Units.{IsUnit}
 use Rattle.inplace_laws.specs.CallInPlace.{AreDistinct}
 use Rattle.memory_kinds.specs.Faults.{fault_of}
-use Rattle.c_lowered.specs.Lowered.{param_forms}
-use Rattle.c_lowered.specs.LoweredUnit.{Printing, is_listed, counts}
-use Rattle.c_follows.specs.Simulation.{Ground}
-use Rattle.c_follows.specs.Good.{IsGoodBlock, MayStore, AreGoodParams, AreNamedApart}
-use Rattle.c_follows.specs.Bodies.{bodies_of}
-use Rattle.c_follows.specs.Templates.{TemplatesDoTheirBodies}
-use Rattle.c_follows.specs.Units.{AreLowered, UnitsFollow}
-use Rattle.c_follows.specs.Grounds.{world_above, bounds_in, printed_ground, plain_ground}
+use Rattle.c_lowering.specs.Made.Lowered.{param_forms}
+use Rattle.c_lowering.specs.Made.LoweredUnit.{Printing, is_listed, counts}
+use Rattle.c_unit_laws.specs.Follows.Simulation.{Ground}
+use Rattle.c_unit_laws.specs.Follows.Good.{IsGoodBlock, MayStore, AreGoodParams, AreNamedApart}
+use Rattle.c_unit_laws.specs.Follows.Bodies.{bodies_of}
+use Rattle.c_unit_laws.specs.Follows.Templates.{TemplatesDoTheirBodies}
+use Rattle.c_unit_laws.specs.Follows.Units.{AreLowered, UnitsFollow}
+use Rattle.c_unit_laws.specs.Follows.Grounds.{world_above, bounds_in, printed_ground, plain_ground}
 
 -- What the laws on functions and blocks ask of a procedure and its names in the C.
 pub record IsGoodProcedure (g : Ground) (most : ℕ → ℕ) (world : World)

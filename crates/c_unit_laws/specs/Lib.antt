@@ -8,3 +8,4 @@ pub mod StrictTemplates
 pub mod ColumnRun
 pub mod Undeclared
 pub mod ClosedRuns
+pub mod Follows

@@ -2,10 +2,10 @@
 use Rattle.std.specs.Prelude.{◌≡◌, ◌&&◌, if◌then◌else◌, ℕ, suc, Bool, true, List, [], ◌∷◌, Some, None, slice_get}
 use Rattle.exo_tree.specs.Tree.{Procedure, Program}
 use Rattle.exo_meaning.specs.Units.{IsUnit}
-use Rattle.exo_calls.specs.Closed.{closed}
-use Rattle.exo_calls.specs.Passed.{is_function}
-use Rattle.c_lowered.specs.LoweredUnit.{Printing, is_listed}
-use Rattle.c_follows.specs.Units.{IsListing}
+use Rattle.exo_modes.specs.Calls.Closed.{closed}
+use Rattle.exo_modes.specs.Calls.Passed.{is_function}
+use Rattle.c_lowering.specs.Made.LoweredUnit.{Printing, is_listed}
+use Rattle.c_unit_laws.specs.Follows.Units.{IsListing}
 
 -- of the procedures numbered from k on, the functions that are reached
 abbrev pub printings_from : (ℕ → Bool) → (ℕ → Printing) → ℕ → List Procedure → List Printing

@@ -7,14 +7,14 @@ use Rattle.exo_meaning.specs.Scene.{whole}
 use Rattle.exo_meaning.specs.State.{State}
 use Rattle.exo_meaning.specs.Run.{tensor, program_world}
 use Rattle.exo_meaning.specs.Inputs.{IsValid, run_procedure}
-use Rattle.c_machine.specs.Machine.{Done, Thing, IsArray, Object, Machine}
-use Rattle.c_machine.specs.CRun.{Behaviour, run_file}
-use Rattle.c_lowered.specs.LoweredUnit.{lowered}
-use Rattle.c_lowered.specs.Examples.{copy8, vector_program}
-use Rattle.c_follows.specs.Simulation.{Layout}
-use Rattle.c_follows.specs.Bodies.{bodies_of}
-use Rattle.c_follows.specs.Templates.{TemplatesDoTheirBodies}
-use Rattle.c_follows.specs.Units.{IsSameStart}
+use Rattle.c_unit_laws.specs.Follows.Machine.Machine.{Done, Thing, IsArray, Object, Machine}
+use Rattle.c_unit_laws.specs.Follows.Machine.CRun.{Behaviour, run_file}
+use Rattle.c_lowering.specs.Made.LoweredUnit.{lowered}
+use Rattle.c_lowering.specs.Made.Examples.{copy8, vector_program}
+use Rattle.c_unit_laws.specs.Follows.Simulation.{Layout}
+use Rattle.c_unit_laws.specs.Follows.Bodies.{bodies_of}
+use Rattle.c_unit_laws.specs.Follows.Templates.{TemplatesDoTheirBodies}
+use Rattle.c_unit_laws.specs.Follows.Units.{IsSameStart}
 use Rattle.c_unit_laws.specs.Instance.{copy_printed}
 
 -- for x, y, and any other buffer

@@ -5,15 +5,15 @@ use Rattle.exo_meaning.specs.State.{State}
 use Rattle.exo_meaning.specs.Run.{program_world}
 use Rattle.exo_meaning.specs.Inputs.{IsValid, run_procedure}
 use Rattle.exo_meaning.specs.Units.{IsUnit}
-use Rattle.exo_calls.specs.Closed.{closed}
+use Rattle.exo_modes.specs.Calls.Closed.{closed}
 use Rattle.memory_kinds.specs.Faults.{fault_of}
-use Rattle.c_machine.specs.Machine.{Done, Thing, Machine}
-use Rattle.c_machine.specs.CRun.{Behaviour, run_file}
-use Rattle.c_lowered.specs.LoweredUnit.{Printing, lowered}
-use Rattle.c_follows.specs.Simulation.{Layout}
-use Rattle.c_follows.specs.Templates.{TemplatesDoTheirBodies}
-use Rattle.c_follows.specs.Grounds.{declared_in, naming_of}
-use Rattle.c_follows.specs.Units.{AreLowered, IsSameStart, LeavesTheSame}
+use Rattle.c_unit_laws.specs.Follows.Machine.Machine.{Done, Thing, Machine}
+use Rattle.c_unit_laws.specs.Follows.Machine.CRun.{Behaviour, run_file}
+use Rattle.c_lowering.specs.Made.LoweredUnit.{Printing, lowered}
+use Rattle.c_unit_laws.specs.Follows.Simulation.{Layout}
+use Rattle.c_unit_laws.specs.Follows.Templates.{TemplatesDoTheirBodies}
+use Rattle.c_unit_laws.specs.Follows.Grounds.{declared_in, naming_of}
+use Rattle.c_unit_laws.specs.Follows.Units.{AreLowered, IsSameStart, LeavesTheSame}
 
 abbrev mutual
   pub allocates : Block → Bool

@@ -4,13 +4,14 @@ use Rattle.std.specs.Prelude.{◌≡◌, ℕ, ℤ, pos, Bool, true, false, ◌&&
 use Rattle.std.specs.Prelude.{codes, Option, Some, None, option_map, slice_get}
 use Rattle.std.specs.Ordering.{int_eq}
 use Rattle.exo_meaning.specs.Value.{Number}
-use Rattle.c_machine.specs.Machine.{Outcome, Done, Fault, where_good, Thing, IsWindow, Object}
-use Rattle.c_machine.specs.Machine.{Machine, same_name}
-use Rattle.c_machine.specs.CRun.{Behaviour, run_file}
+use Rattle.c_unit_laws.specs.Follows.Machine.Machine.{Outcome, Done, Fault, where_good, Thing}
+use Rattle.c_unit_laws.specs.Follows.Machine.Machine.{IsWindow, Object}
+use Rattle.c_unit_laws.specs.Follows.Machine.Machine.{Machine, same_name}
+use Rattle.c_unit_laws.specs.Follows.Machine.CRun.{Behaviour, run_file}
 use Rattle.c_tree.specs.CTree.{Name}
-use Rattle.c_lowered.specs.LoweredUnit.{lowered}
-use Rattle.c_lowered.specs.Examples.{vector_program}
-use Rattle.c_follows.specs.Templates.{TemplatesDoTheirBodies}
+use Rattle.c_lowering.specs.Made.LoweredUnit.{lowered}
+use Rattle.c_lowering.specs.Made.Examples.{vector_program}
+use Rattle.c_unit_laws.specs.Follows.Templates.{TemplatesDoTheirBodies}
 use Rattle.c_unit_laws.specs.Instance.{copy_printed}
 use Rattle.c_unit_laws.specs.Runs.{by_object, layout, object, machine, things, templates}
 

@@ -3,7 +3,7 @@ use Rattle.std.specs.Prelude.{◌≡◌, ℕ, pos, ◌==◌, Bool, true, List, [
 use Rattle.exo_tree.specs.Tree.{I32, Size, Control, Lit, Var, Mul, Lt, ControlArg, Statement, If}
 use Rattle.exo_tree.specs.Tree.{Alloc, Pass, Call, end, next, ControlParam, Procedure, MemoryKind}
 use Rattle.exo_tree.specs.Tree.{Program}
-use Rattle.exo_calls.specs.Closed.{closed}
+use Rattle.exo_modes.specs.Calls.Closed.{closed}
 use Rattle.c_widths.specs.Raises.{given_to, widest}
 
 -- def p(n: size): BODY, where n has that number

@@ -1,13 +1,13 @@
 //! Whether the control expressions of a unit's procedures fit.
 ghost use Rattle.std.specs.Prelude.{◌≡◌, ◌<◌, [], length, true, not, IfOk, slice_get};
 ghost use Rattle.exo_tree.specs.PlainUnit.{program};
-ghost use Rattle.exo_calls.specs.Marked.{contains};
+ghost use Rattle.exo_modes.specs.Calls.Marked.{contains};
 ghost use Rattle.c_widths.specs.Raises as raises;
 ghost use Rattle.c_widths.specs.Raises.{memories_for};
 
 use crate::given::Given;
 use crate::procedures::fits_procedure;
-use exo_calls::Marks;
+use exo_modes::calls::Marks;
 use exo_tree::{Memories, Proc, Unit};
 use std::alloc::{AllocError, Global};
 

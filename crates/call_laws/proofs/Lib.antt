@@ -1,15 +1,13 @@
-mod Examples
-mod InlineExamples
-pub mod Agreeing
-pub mod Callees
-pub mod Fresh
-pub mod Puts
-pub mod Here
-pub mod InlineWindow
-pub mod Uses
-pub mod Inlinable
-pub mod Standing
-pub mod Caught
-pub mod Takes
-pub mod Inline
-pub mod OfNames
+pub mod Owned
+pub mod Places
+pub mod Entries
+pub mod Each
+pub mod Nameless
+pub mod Spots
+pub mod Simplify
+pub mod Simplest
+pub mod Examples
+pub mod Instances
+pub mod OfReplace
+pub mod OfCalls
+pub mod OfFields

@@ -1,9 +1,7 @@
-pub mod Callees
-pub mod Fresh
-pub mod Puts
-pub mod Here
-pub mod InlineWindow
-pub mod Inlinable
-pub mod Takes
-pub mod Inline
-pub mod Names
+pub mod Places
+pub mod Nameless
+pub mod Spots
+pub mod Simplify
+pub mod Replace
+pub mod Calls
+pub mod Fields

@@ -1,96 +1,55 @@
-// Laws of calls that are inlined, each the contract of a function with nothing to do.
+// That what an expression reads at a place has its number there, and that the rule which simplifies
+// keeps the meaning and carries statements, each law the contract of a function with nothing to do.
 
-ghost use Rattle.call_laws.specs.Callees.{CalleeAt, CalleeKeepsRules, CalleeCallsBefore};
-ghost use Rattle.call_laws.specs.Fresh.{FreshIds, FreshAnywhere, FreshConditionsAnywhere};
-ghost use Rattle.call_laws.specs.Puts.{PutsRenumbered};
-ghost use Rattle.call_laws.specs.Here.{AtOnceHere, CallsStandThere};
-ghost use Rattle.call_laws.specs.InlineWindow.{inline_window_rule, NothingFollows, ViewsMayGo};
-ghost use Rattle.call_laws.specs.Inlinable.{NewNames};
-ghost use Rattle.call_laws.specs.Takes.{CallsTake};
-ghost use Rattle.call_laws.specs.Inline.{inline_rule};
 ghost use Rattle.step_rules.specs.Lawful.{IsLawful, IsCarrying};
+ghost use Rattle.call_laws.specs.Places.{PlacesStand, EntryReads, ReadsThere, EachIsRead};
+ghost use Rattle.call_laws.specs.Nameless.{OfEachNameless};
+ghost use Rattle.call_laws.specs.Spots.{PiecesAreRead};
+ghost use Rattle.call_laws.specs.Simplify.{simplify_rule, SimplifiesAll};
 
-/// A number names the procedure behind so many others.
-pub fn callees_stand_at_their_numbers()
-    ensures { CalleeAt }
+/// Each name that sees something sees a part of its root, and each name in scope that has a
+/// dimension sees something.
+pub fn places_stand()
+    ensures { PlacesStand }
 {}
 
-/// A procedure of a unit keeps the rules.
-pub fn callees_keep_rules()
-    ensures { CalleeKeepsRules }
+/// What is read there of variables, fields and strides has their numbers.
+pub fn entries_read()
+    ensures { EntryReads }
 {}
 
-/// It calls those before it alone.
-pub fn callees_call_those_before()
-    ensures { CalleeCallsBefore }
+/// So does all that is read of an expression that keeps the rules.
+pub fn expressions_are_read_there()
+    ensures { ReadsThere }
 {}
 
-/// New numbers are given one to each id.
-pub fn new_numbers_are_given_once()
-    ensures { FreshIds }
+/// And of each expression of a block, wherever its run comes.
+pub fn each_is_read()
+    ensures { EachIsRead }
 {}
 
-/// The callee with any new ids is the callee under a renaming.
-pub fn any_new_ids_rename_callees()
-    ensures { FreshAnywhere }
+/// Names of binders are of no account for it.
+pub fn each_nameless_is_read()
+    ensures { OfEachNameless }
 {}
 
-/// So it may be inlined.
-pub fn callees_with_any_new_ids_may_be_inlined()
-    ensures { FreshConditionsAnywhere }
+/// So each expression of a piece is read wherever a run comes to it, with names of binders or
+/// without.
+pub fn pieces_are_read()
+    ensures { PiecesAreRead }
 {}
 
-/// New ids and arguments are put in one pass.
-pub fn new_ids_and_arguments_are_put_at_once()
-    ensures { PutsRenumbered }
+/// The rule simplifies each control expression of a block that keeps the rules.
+pub fn all_is_simplified()
+    ensures { SimplifiesAll }
 {}
 
-/// So it is at a call of a well-formed procedure.
-pub fn calls_are_inlined_at_once()
-    ensures { AtOnceHere }
+/// Control expressions may be written out from their normal forms.
+pub fn simplifications_are_lawful()
+    ensures { IsLawful simplify_rule }
 {}
 
-/// Nothing follows a view that is opened with all that follows it.
-pub fn views_with_what_follows_are_last()
-    ensures { NothingFollows }
-{}
-
-/// A view may be removed where what is made of the rest is formed.
-pub fn views_may_go()
-    ensures { ViewsMayGo }
-{}
-
-/// The rule that removes a view is lawful.
-pub fn inlined_windows_are_lawful()
-    ensures { IsLawful inline_window_rule }
-{}
-
-/// It moves what follows up.
-pub fn inlined_windows_carry()
-    ensures { IsCarrying inline_window_rule }
-{}
-
-/// The names of a callee with fresh ids are as a call asks for that is inlined.
-pub fn inlined_callees_have_new_names()
-    ensures { NewNames }
-{}
-
-/// Where a run comes to a call its arguments have the types of the parameters.
-pub fn arguments_have_their_types()
-    ensures { CallsStandThere }
-{}
-
-/// Arguments of a call may stand for the parameters of the callee with fresh ids.
-pub fn arguments_may_be_taken()
-    ensures { CallsTake }
-{}
-
-/// The rule that puts the callee's body in the place of a call is lawful.
-pub fn inlined_calls_are_lawful()
-    ensures { IsLawful inline_rule }
-{}
-
-/// It takes the call away.
-pub fn inlined_calls_carry()
-    ensures { IsCarrying inline_rule }
+/// Each statement stays where it is.
+pub fn simplifications_carry()
+    ensures { IsCarrying simplify_rule }
 {}

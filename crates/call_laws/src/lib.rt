@@ -1,5 +1,9 @@
-//! The rules of steps that inline calls and views, and that each is lawful; names and ids of copies.
+//! The rules of steps that inline calls and views, write fields, simplify, and put a call in the
+//! place of a matched block: each is lawful. What is read at a place, and what a match gives a
+//! callee.
 #![tactic(auto)]
 
+pub mod calls;
+pub mod fields;
 pub mod laws;
-pub mod names;
+pub mod replace;

@@ -10,8 +10,8 @@ use Rattle.step_rules.specs.Rule.{Tried, Got, Not, Target, Spot, Piece}
 use Rattle.step_rules.specs.Lawful.{old}
 use Rattle.step_rules.specs.Shapes.{tried, alone_in}
 use Rattle.step_driver.specs.Spots.{or_nothing, spot_at}
-use Rattle.call_laws.specs.Here.{inlined_by}
-use Rattle.call_laws.specs.Inline.{inlined_there}
+use Rattle.call_laws.specs.Calls.Here.{inlined_by}
+use Rattle.call_laws.specs.Calls.Inline.{inlined_there}
 
 pub called_alone : (b : Block) → option_and_then called_by (alone_in b) ≡ called_in b
 called_alone end = refl

@@ -9,8 +9,8 @@ use Rattle.match_laws.specs.Inline.InlineRule.{Called}
 use Rattle.tree_uses.specs.Uses.{used_statement, used}
 use Rattle.tree_uses.specs.Putting.{putting}
 use Rattle.tree_uses.proofs.IsPut.{controls_put, condition_put, datum_put, argument_put, arguments_put}
-use Rattle.call_laws.specs.Here.{inlined_by}
-use Rattle.call_laws.specs.Puts.{put_under_statement, put_under}
+use Rattle.call_laws.specs.Calls.Here.{inlined_by}
+use Rattle.call_laws.specs.Calls.Puts.{put_under_statement, put_under}
 use Rattle.call_rewrites.specs.Drafts.{put_for}
 use Rattle.call_rewrites.specs.Numbered.{Numbered, numbered_from, with_ids, number_of}
 use Rattle.call_rewrites.proofs.Numbers.{numbers}

@@ -9,16 +9,16 @@ use Rattle.affine_forms.specs.declared.error.FormError.TheVariants.{TooManyCases
 use Rattle.match_laws.specs.Simplify.SameControls.{in_block}
 use Rattle.match_laws.specs.Widths.{is_short}
 use Rattle.tree_uses.specs.Uses.{used, used_fits}
-use Rattle.simple_forms.specs.Changing.{simplifying}
-use Rattle.simple_forms.proofs.Changed.{changes_controls}
+use Rattle.tree_uses.specs.Simple.Changing.{simplifying}
+use Rattle.tree_uses.proofs.OfSimple.Changed.{changes_controls}
 use Rattle.cursor_forward.specs.Causes as causes
 use Rattle.cursor_forward.specs.PlainProposal.{fault_of}
 use Rattle.cursor_forward.specs.declared.proposal.StepError.{StepError}
-use Rattle.step_needs.specs.Outcomes.{RefusedBy, Tries}
+use Rattle.step_driver.specs.Needs.Outcomes.{RefusedBy, Tries}
 use Rattle.step_rules.specs.Rule.{Tried, Got, Not}
 use Rattle.affine_places.specs.Roots.{Roots, no_roots, roots_of, has_extents}
 use Rattle.affine_places.specs.Readings.{entry_reading}
-use Rattle.unify_laws.specs.Simplify.{simpler, rooted}
+use Rattle.call_laws.specs.Simplify.{simpler, rooted}
 use Rattle.call_rewrites.specs.Drafts.{simplified_if}
 
 module _ (at : Reading) (b : Block) where

@@ -18,7 +18,7 @@ use Rattle.step_rules.specs.Rule.{Tried, Got, Not, Target, Piece}
 use Rattle.step_rules.specs.Shapes.{tried, alone_in}
 use Rattle.step_driver.specs.Spots.{spot_at}
 use Rattle.step_driver.proofs.Statements.{one_alone}
-use Rattle.call_laws.specs.InlineWindow.{window_moves}
+use Rattle.call_laws.specs.Calls.InlineWindow.{window_moves}
 use Rattle.call_rewrites.specs.Drafts.{opened_to_end}
 use Rattle.call_rewrites.proofs.Called.{as_piece}
 

@@ -10,8 +10,8 @@ use Rattle.match_laws.specs.Inline.Pieces as pieces
 use Rattle.match_laws.specs.Simplify.SameControls.{in_block}
 use Rattle.cursor_forward.specs.Causes.{WideNumber, Form}
 use Rattle.step_rules.specs.Rule.{Tried, Got, Not, Target, Piece}
-use Rattle.call_laws.specs.Puts.{after}
-use Rattle.unify_laws.specs.Simplify.{simpler, all_fit}
+use Rattle.call_laws.specs.Calls.Puts.{after}
+use Rattle.call_laws.specs.Simplify.{simpler, all_fit}
 
 abbrev pub simplified_if : Reading → Block → Tried Block
 simplified_if at b =

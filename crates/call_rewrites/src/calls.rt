@@ -1,57 +1,19 @@
 //! Calls whose arguments read no field and no stride.
 ghost use Rattle.std.specs.Prelude.{◌≡◌, map, option_map};
 ghost use Rattle.exo_tree.specs.PlainArgument.{argument};
-ghost use Rattle.exo_tree.specs.PlainControl.{control, condition};
 ghost use Rattle.exo_tree.specs.PlainStatement.{statement};
 ghost use Rattle.match_laws.specs.Inline.InlineRule.{is_plain_argument, are_plain_arguments};
 ghost use Rattle.match_laws.specs.Inline.InlineRule.{called_by, called_in};
 ghost use Rattle.meaning_laws.specs.Facts.{is_plain_condition};
-ghost use Rattle.meaning_laws.specs.Substitute.{is_plain};
 ghost use Rattle.step_driver.specs.PlainTarget.{target, plain_piece};
 ghost use Rattle.step_driver.specs.Spots.{spot_at};
 ghost use Rattle.call_rewrites.specs.PlainCall.{plain_call};
 
-use exo_tree::{Arg, Args, Cond, Ctrl, ProcId, Stmt};
+use exo_effects::{is_plain, is_plain_condition};
+use exo_tree::{Arg, Args, ProcId, Stmt};
 use step_driver::{Piece, Target};
 
-/// Whether an expression reads no field and no stride.
-fn is_plain(e: &Ctrl) -> bool
-    ensures { result ≡ is_plain (control e.now) }
-{
-    match e {
-        Ctrl::Lit(_) => true,
-        Ctrl::Var(_) => true,
-        Ctrl::Field(_) => false,
-        Ctrl::Stride(_, _) => false,
-        Ctrl::Neg(a) => is_plain(a),
-        Ctrl::Add(a, b) => is_plain(a) && is_plain(b),
-        Ctrl::Sub(a, b) => is_plain(a) && is_plain(b),
-        Ctrl::Mul(a, b) => is_plain(a) && is_plain(b),
-        Ctrl::Div(a, _) => is_plain(a),
-        Ctrl::Mod(a, _) => is_plain(a),
-    }
-}
-
-/// The same of a condition.
-fn is_plain_condition(c: &Cond) -> bool
-    ensures { result ≡ is_plain_condition (condition c.now) }
-{
-    match c {
-        Cond::True => true,
-        Cond::False => true,
-        Cond::Var(_) => true,
-        Cond::Field(_) => false,
-        Cond::Lt(a, b) => is_plain(a) && is_plain(b),
-        Cond::Le(a, b) => is_plain(a) && is_plain(b),
-        Cond::Gt(a, b) => is_plain(a) && is_plain(b),
-        Cond::Ge(a, b) => is_plain(a) && is_plain(b),
-        Cond::Eq(a, b) => is_plain(a) && is_plain(b),
-        Cond::And(c, d) => is_plain_condition(c) && is_plain_condition(d),
-        Cond::Or(c, d) => is_plain_condition(c) && is_plain_condition(d),
-    }
-}
-
-/// The same of a control argument; other arguments are plain.
+/// Whether a control argument reads no field and no stride; other arguments are plain.
 fn is_plain_argument(a: &Arg) -> bool
     ensures { result ≡ is_plain_argument (argument a.now) }
 {

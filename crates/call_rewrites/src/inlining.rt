@@ -2,9 +2,9 @@
 ghost use Rattle.std.specs.Prelude.{◌≡◌, IfOk};
 ghost use Rattle.exo_tree.specs.Tree.{block};
 ghost use Rattle.exo_tree.specs.PlainProcedure.{procedure};
-ghost use Rattle.call_laws.specs.Here.{inlined_by};
-ghost use Rattle.call_laws.specs.Inline.{inline_rule};
-ghost use Rattle.call_laws.proofs.Inline.{inline_is_lawful, inline_is_carrying};
+ghost use Rattle.call_laws.specs.Calls.Here.{inlined_by};
+ghost use Rattle.call_laws.specs.Calls.Inline.{inline_rule};
+ghost use Rattle.call_laws.proofs.OfCalls.Inline.{inline_is_lawful, inline_is_carrying};
 ghost use Rattle.call_rewrites.specs.PlainCall.{plain_call};
 
 use crate::arguments::Arguments;
@@ -12,10 +12,10 @@ use crate::calls::{CallAt, call_at};
 use crate::ids::NewIds;
 use cursor_forward::{Shifts, StepError};
 use exo_tree::{Block, Name, Path, Proc};
-use made_trees::Fresh;
 use std::alloc::{AllocError, Global};
+use step_driver::needs::Need;
 use step_driver::{Exit, Operator, Piece, Target, Writing};
-use step_needs::Need;
+use tree_edits::made::Fresh;
 use tree_uses::put;
 
 /// The step that puts the callee's body in the place of a call, with the arguments in the place of

@@ -3,8 +3,8 @@ ghost use Rattle.exo_tree.specs.Tree.{block};
 ghost use Rattle.exo_tree.specs.PlainUnit.{program};
 ghost use Rattle.affine_places.specs.Readings.{entry_reading};
 ghost use Rattle.affine_places.specs.Seen.{roots_in};
-ghost use Rattle.unify_laws.specs.Simplify.{simplify_rule, reading_of};
-ghost use Rattle.unify_laws.proofs.Simplify.{simplify_is_lawful, simplify_is_carrying};
+ghost use Rattle.call_laws.specs.Simplify.{simplify_rule, reading_of};
+ghost use Rattle.call_laws.proofs.Simplify.{simplify_is_lawful, simplify_is_carrying};
 ghost use Rattle.step_driver.specs.Outcomes.{Tries};
 ghost use Rattle.step_driver.specs.PlainTarget.{target};
 ghost use Rattle.call_rewrites.specs.Drafts.{simplified_if};
@@ -13,12 +13,12 @@ use affine_forms::Reader;
 use affine_places::{AtEntry, Roots, has_extents};
 use cursor_forward::{Shifts, StepError};
 use exo_tree::{Block, Name, Path, Proc};
-use made_trees::Fresh;
-use simple_forms::Simply;
 use std::alloc::{AllocError, Global};
+use step_driver::needs::Need;
 use step_driver::{Exit, Operator, Piece, Target, Writing, stays};
-use step_needs::Need;
 use step_targets::statement_count;
+use tree_edits::made::Fresh;
+use tree_uses::simple::Simply;
 use tree_uses::used;
 
 /// The step that writes each control expression of a procedure's body out from its normal form. An

@@ -3,8 +3,9 @@ ghost use Rattle.std.specs.Prelude.{◌≡◌, option_map, IfOk};
 ghost use Rattle.exo_tree.specs.Tree.{block};
 ghost use Rattle.exo_tree.specs.PlainStatement.{statement};
 ghost use Rattle.match_laws.specs.Inline.InlineWindowRule.{viewed_by, viewed_in, behind_first};
-ghost use Rattle.call_laws.specs.InlineWindow.{inline_window_rule};
-ghost use Rattle.call_laws.proofs.InlineWindow.{inline_window_is_lawful, inline_window_is_carrying};
+ghost use Rattle.call_laws.specs.Calls.InlineWindow.{inline_window_rule};
+ghost use Rattle.call_laws.proofs.OfCalls.InlineWindow.{inline_window_is_lawful};
+ghost use Rattle.call_laws.proofs.OfCalls.InlineWindow.{inline_window_is_carrying};
 ghost use Rattle.step_driver.specs.Outcomes.{Tries};
 ghost use Rattle.step_driver.specs.PlainTarget.{target, plain_piece};
 ghost use Rattle.step_rules.specs.Shapes.{tried};
@@ -13,12 +14,12 @@ ghost use Rattle.call_rewrites.specs.PlainView.{plain_view};
 
 use cursor_forward::{Shifts, StepError};
 use exo_tree::{Binder, Block, Coords, Id, Name, Path, Proc, Stmt};
-use made_trees::Fresh;
 use std::alloc::{AllocError, Global};
+use step_driver::needs::Need;
 use step_driver::{Exit, Operator, Piece, Target, Writing};
-use step_needs::Need;
 use step_targets::{at_index, one_shift, range_to, statement_count};
-use tree_mentions::rest_after;
+use tree_edits::made::Fresh;
+use tree_uses::mentions::rest_after;
 use tree_uses::{OneWindow, put};
 
 /// The step that removes a view; what follows in its block uses the buffer in its place.

@@ -5,12 +5,12 @@ use Rattle.std.proofs.lemmas.List.Sums.{fold-append}
 use Rattle.std.proofs.lemmas.Grind.{flat_map-append}
 use Rattle.exo_tree.specs.Tree.{Statement, Assign, Reduce, Config, Pass, If, For, Alloc, View, Call}
 use Rattle.exo_tree.specs.Tree.{Block, block, end, next, Program}
-use Rattle.exo_tree.specs.Places.{Branch, Main, Else, Path}
+use Rattle.exo_tree.specs.Places.{Branch, Main, Else, Path, path_below}
 use Rattle.affine_places.specs.Roots.{Roots, roots_of}
 use Rattle.text_show.specs.Words.{Words, words_of}
 use Rattle.check_claims.specs.Claim.{Placed}
 use Rattle.check_claims.specs.Extents.{Extents, extents_of}
-use Rattle.check_claims.specs.Claims.{own_claims, param_claims, placed_at, into}
+use Rattle.check_claims.specs.Claims.{own_claims, param_claims, placed_at}
 use Rattle.check_claims.specs.Claims.{block_claims, inner_claims}
 use Rattle.check_claims.specs.Places.{Place, block_places, inner_places, claims_at}
 use Rattle.check_claims.specs.Places.{PlacesHaveAllClaims, moved, with_place, with_places}
@@ -28,7 +28,7 @@ module _ (w : Words) (u : Program) (extents : Extents) (roots : Roots) where
         → claims_at (block_places w u extents roots outer branch n b) ≡ block_claims w u extents roots outer branch n b
     block_same outer branch n end = refl
     block_same outer branch n (next a b) =
-        let path = into outer branch n in
+        let path = path_below outer branch n in
         ap (λ l. placed_at path (own_claims w u extents roots a) ++ l)
         (claims_on (inner_places w u extents roots path a) (block_places w u extents roots outer branch (suc n) b)
         ∙ (λ i. inner_same path a i ++ block_same outer branch (suc n) b i))
@@ -58,13 +58,13 @@ all_claims u p =
 
 module _ (w : Words) (u : Program) (extents : Extents) (roots : Roots) (outer : Path) (branch : Branch) where
   pub placed_on : (k : ℕ) (before behind after whole : List Placed × Window) (path : Path) (s : Statement)
-      (ss rest : List Statement) → ss ≡ s ∷ rest → path ≡ into outer branch k
+      (ss rest : List Statement) → ss ≡ s ∷ rest → path ≡ path_below outer branch k
       → behind ≡ with_place before (path, own_claims w u extents roots s)
       → after ≡ with_places behind (inner_places w u extents roots path s)
       → with_places before (block_places w u extents roots outer branch k (block ss)) ≡ whole
       → with_places after (block_places w u extents roots outer branch (k + 1) (block rest)) ≡ whole
   placed_on k before behind after whole path s ss rest e p h j g =
-      let here = into outer branch k in
+      let here = path_below outer branch k in
       let inner = inner_places w u extents roots here s in
       let more = block_places w u extents roots outer branch (suc k) (block rest) in
       let first : behind ≡ with_place before (here, own_claims w u extents roots s) =

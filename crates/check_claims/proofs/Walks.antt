@@ -3,13 +3,13 @@ use Rattle.std.proofs.Common.{◌≡◌, ℕ, suc, ◌+◌, ◌<◌, ◌≤◌, 
 use Rattle.std.proofs.lemmas.Bool.Decides.{nat_tests}
 use Rattle.std.proofs.lemmas.List.{length-append}
 use Rattle.exo_tree.specs.Tree.{Statement, block, statements, Program}
-use Rattle.exo_tree.specs.Places.{Branch, Path}
+use Rattle.exo_tree.specs.Places.{Branch, Path, path_below}
 use Rattle.exo_meaning.specs.Units.{is_short, larger, levels, step_levels}
 use Rattle.affine_places.specs.Roots.{Roots}
 use Rattle.text_show.specs.Words.{Words}
 use Rattle.check_claims.specs.Claim.{Claim, Placed}
 use Rattle.check_claims.specs.Extents.{Extents}
-use Rattle.check_claims.specs.Claims.{placed_at, into, own_claims, inner_claims, block_claims}
+use Rattle.check_claims.specs.Claims.{placed_at, own_claims, inner_claims, block_claims}
 use Rattle.check_claims.specs.Short.{is_short_inside, step_is_short}
 
 -- ---- tests
@@ -56,15 +56,15 @@ deep_enough n ss rest s e h =
 pub short_on : (ss rest : List Statement) (s : Statement) → ss ≡ s ∷ rest → is_short_inside (block ss) ≡ true → (step_is_short s ≡ true) × (is_short_inside (block rest) ≡ true)
 short_on ss rest s e h = both (step_is_short s) (is_short_inside (block rest)) (ap (λ (l : List Statement). is_short_inside (block l)) (sym e) ∙ h)
 
-pub into_length : (outer path : Path) (branch : Branch) (k : ℕ) → path ≡ into outer branch k → length path ≡ length outer + 1
-into_length outer path branch k h = ap length h ∙ length-append outer (record { branch = branch; index = k } ∷ [])
+pub below_length : (outer path : Path) (branch : Branch) (k : ℕ) → path ≡ path_below outer branch k → length path ≡ length outer + 1
+below_length outer path branch k h = ap length h ∙ length-append outer (record { branch = branch; index = k } ∷ [])
 
 module _ (w : Words) (u : Program) (extents : Extents) (roots : Roots) (outer : Path) (branch : Branch) where
-  pub walked_on : (k : ℕ) (out behind after whole : List Placed) (path : Path) (own : List Claim) (s : Statement) (ss rest : List Statement) → ss ≡ s ∷ rest → path ≡ into outer branch k → own ≡ own_claims w u extents roots s
+  pub walked_on : (k : ℕ) (out behind after whole : List Placed) (path : Path) (own : List Claim) (s : Statement) (ss rest : List Statement) → ss ≡ s ∷ rest → path ≡ path_below outer branch k → own ≡ own_claims w u extents roots s
       → behind ≡ out ++ placed_at path own → after ≡ behind ++ inner_claims w u extents roots path s
       → out ++ block_claims w u extents roots outer branch k (block ss) ≡ whole → after ++ block_claims w u extents roots outer branch (k + 1) (block rest) ≡ whole
   walked_on k out behind after whole path own s ss rest e p o h j g =
-      let here = into outer branch k in
+      let here = path_below outer branch k in
       let a = placed_at here (own_claims w u extents roots s) in
       let b = inner_claims w u extents roots here s in
       let more = block_claims w u extents roots outer branch (suc k) (block rest) in

@@ -4,7 +4,7 @@ use Rattle.std.specs.Prelude.{ℕ, suc, pos, ◌==◌, Bool, false, ◌&&◌, �
 use Rattle.std.specs.Prelude.{List, [], ◌∷◌, ◌++◌, map, flat_map, Option, Some, None, option_map}
 use Rattle.std.specs.Prelude.{slice_get}
 use Rattle.exo_tree.specs.Tree.{Kind, Size, Control, Lit, Condition, Le, Lt, Eq, Datum, Const, Read, Negated, Relu, Plus, Minus, Times, Select, Coord, At, Span, Argument, ControlArg, ConditionArg, Whole, Window, Statement, Assign, Reduce, Config, Pass, If, For, Alloc, View, Call, Block, end, next, ControlParam, TensorParam, WindowParam, Param, Procedure, Program}
-use Rattle.exo_tree.specs.Places.{Branch, Main, Else, Path, statement_at}
+use Rattle.exo_tree.specs.Places.{Branch, Main, Else, Path, statement_at, path_below}
 use Rattle.exo_meaning.specs.Run.{kinds_of}
 use Rattle.exo_meaning.specs.Modes.{Writing, Reducing, unit_modes}
 use Rattle.exo_meaning.specs.Units.{field_kind}
@@ -175,18 +175,14 @@ module _ (w : Words) where
 abbrev pub placed_at : Path → List Claim → List Placed
 placed_at path claims = map (λ c. record { place = path; claim = c }) claims
 
--- the path of a statement in a branch of the statement at the path
-abbrev pub into : Path → Branch → ℕ → Path
-into path branch n = path ++ record { branch = branch; index = n } ∷ []
-
 module _ (w : Words) where
   abbrev mutual
     -- of the statements of a block, the first of which has that number, and of the blocks inside them
     pub block_claims : Program → Extents → Roots → Path → Branch → ℕ → Block → List Placed
     block_claims u extents roots outer branch n end = []
     block_claims u extents roots outer branch n (next a b) =
-        placed_at (into outer branch n) (own_claims w u extents roots a)
-        ++ inner_claims u extents roots (into outer branch n) a
+        placed_at (path_below outer branch n) (own_claims w u extents roots a)
+        ++ inner_claims u extents roots (path_below outer branch n) a
         ++ block_claims u extents roots outer branch (suc n) b
 
     -- of the blocks of the statement at the path

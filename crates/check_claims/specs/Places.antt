@@ -6,12 +6,12 @@ use Rattle.std.specs.Prelude.{List, [], ◌∷◌, ◌++◌, flat_map, fold, tak
 use Rattle.std.specs.Prelude.{Some, None, slice_get}
 use Rattle.exo_tree.specs.Tree.{Statement, Assign, Reduce, Config, Pass, If, For, Alloc, View, Call}
 use Rattle.exo_tree.specs.Tree.{Block, end, next, Procedure, Program}
-use Rattle.exo_tree.specs.Places.{Branch, Main, Else, Path}
+use Rattle.exo_tree.specs.Places.{Branch, Main, Else, Path, path_below}
 use Rattle.affine_places.specs.Roots.{Roots, roots_of}
 use Rattle.text_show.specs.Words.{Words, words_of}
 use Rattle.check_claims.specs.Claim.{Claim, Placed}
 use Rattle.check_claims.specs.Extents.{Extents, extents_of}
-use Rattle.check_claims.specs.Claims.{own_claims, param_claims, placed_at, into, claims_of}
+use Rattle.check_claims.specs.Claims.{own_claims, param_claims, placed_at, claims_of}
 use Rattle.check_claims.specs.declared.parts.Window.{Window}
 
 -- ---- places
@@ -27,8 +27,8 @@ module _ (w : Words) where
     pub block_places : Program → Extents → Roots → Path → Branch → ℕ → Block → List Place
     block_places u extents roots outer branch n end = []
     block_places u extents roots outer branch n (next a b) =
-        (into outer branch n, own_claims w u extents roots a)
-        ∷ inner_places u extents roots (into outer branch n) a
+        (path_below outer branch n, own_claims w u extents roots a)
+        ∷ inner_places u extents roots (path_below outer branch n) a
         ++ block_places u extents roots outer branch (suc n) b
 
     -- of the blocks of the statement at the path

@@ -4,11 +4,11 @@ ghost use Rattle.std.specs.Option.{option_copied};
 ghost use Rattle.exo_tree.specs.PlainControl.{control, condition, coordinate};
 ghost use Rattle.exo_tree.specs.PlainParam.{parameter};
 ghost use Rattle.exo_tree.specs.PlainArgument.{argument};
-ghost use Rattle.exo_tree.specs.Spans.{is_span};
 ghost use Rattle.check_claims.specs.Arguments.{passed_for, number_for, truth_for, span_place};
 ghost use Rattle.check_claims.specs.Arguments.{window_stride, stride_for, control_under};
 ghost use Rattle.check_claims.specs.Arguments.{condition_under};
 
+use affine_places::is_span;
 use exo_tree::{Arg, Args, Cond, Coord, Ctrl, Id, Param, Params};
 use std::alloc::{AllocError, Global};
 
@@ -29,15 +29,6 @@ fn argument_for<'a>(params: &[Param], args: &'a [Arg], x: Id) -> Option<&'a Arg>
         }
     }
     None
-}
-
-fn is_span(c: &Coord) -> bool
-    ensures { result ≡ is_span (coordinate c.now) }
-{
-    match c {
-        Coord::At(_) => false,
-        Coord::Span(_, _) => true,
-    }
 }
 
 /// The number of the coordinate that is the span of that number; that of coordinates where there are not so many spans.

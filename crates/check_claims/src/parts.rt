@@ -14,7 +14,8 @@ ghost use Rattle.exo_modes.specs.Seen.{table_says};
 ghost use Rattle.affine_places.specs.Roots.{roots_of, unit_roots};
 ghost use Rattle.affine_places.specs.Seen.{roots_in};
 ghost use Rattle.text_show.specs.Seen.{words_in};
-ghost use Rattle.check_claims.specs.Claims.{into, own_claims, param_claims, placed_at};
+ghost use Rattle.check_claims.specs.Claims.{own_claims, param_claims, placed_at};
+ghost use Rattle.exo_tree.specs.Places.{path_below};
 ghost use Rattle.check_claims.specs.PlainClaim.{placed};
 ghost use Rattle.check_claims.specs.Places.{block_places, inner_places, places_of};
 ghost use Rattle.check_claims.specs.Places.{with_place, with_places};
@@ -28,7 +29,7 @@ use crate::bounds::Site;
 use crate::claim::Placed;
 use crate::list::Claims;
 use crate::sources::Sources;
-use crate::walk::{into, put_own, put_params};
+use crate::walk::{put_own, put_params};
 use affine_places::Roots;
 use exo_modes::ModeTable;
 use exo_tree::{Block, Branch, Param, Path, Proc, ProcId, Stmt, Unit};
@@ -104,11 +105,11 @@ fn put_taken(
     ensures { OnOk result
         (map placed out.new.items
         ≡ map placed out.old.items
-        ++ placed_at (into outer.now (branch_taken branch) k)
+        ++ placed_at (path_below outer.now (branch_taken branch) k)
         (own_claims (words_in site.now.words.now) (program site.now.unit.now)
         (extents_in site.now.extents.now) (roots_in site.now.roots.now) (statement s.now))) }
 {
-    let path = into(outer, branch, k);
+    let path = outer.below(branch, k);
     let mut own = Claims::new(alloc);
     put_own(alloc, &mut own, site, s)?;
     own.place(out, &path)
@@ -130,7 +131,7 @@ fn put_place(
     ensures { OnOk result
         ((map placed out.new.items, window.new)
         ≡ with_place (map placed out.old.items, window.old) (
-          into outer.now (branch_taken branch) k,
+          path_below outer.now (branch_taken branch) k,
           own_claims (words_in site.now.words.now) (program site.now.unit.now)
               (extents_in site.now.extents.now) (roots_in site.now.roots.now) (statement s.now),
         )) }
@@ -193,7 +194,7 @@ fn put_inner_places(
         ≡ with_places (map placed out.old.items, window.old)
         (inner_places (words_in site.now.words.now) (program site.now.unit.now)
         (extents_in site.now.extents.now) (roots_in site.now.roots.now)
-        (into outer.now (branch_taken branch) k) (statement s.now))) }
+        (path_below outer.now (branch_taken branch) k) (statement s.now))) }
 {
     match s {
         Stmt::If(_, a, b) => {
@@ -208,7 +209,7 @@ fn put_inner_places(
 }
 
 /// Goes on over one block of that statement.
-#[tactic(auto, using(crate::proofs::Walks::into_length))]
+#[tactic(auto, using(crate::proofs::Walks::below_length))]
 #[cycle(walk)]
 fn put_under(
     alloc: Global,
@@ -229,9 +230,9 @@ fn put_under(
         ≡ with_places (map placed out.old.items, window.old)
         (block_places (words_in site.now.words.now) (program site.now.unit.now)
         (extents_in site.now.extents.now) (roots_in site.now.roots.now)
-        (into outer.now (branch_taken branch) k) (branch_taken inner) 0 (block b.now))) }
+        (path_below outer.now (branch_taken branch) k) (branch_taken inner) 0 (block b.now))) }
 {
-    let path = into(outer, branch, k);
+    let path = outer.below(branch, k);
     put_block_places(alloc, out, site, window, &path, inner, b)
 }
 

@@ -14,7 +14,7 @@ ghost use Rattle.exo_modes.specs.Seen.{table_says};
 ghost use Rattle.affine_places.specs.Roots.{roots_of, unit_roots};
 ghost use Rattle.affine_places.specs.Seen.{roots_in};
 ghost use Rattle.text_show.specs.Seen.{words_in};
-ghost use Rattle.check_claims.specs.Claims.{write_claims, own_claims, into, block_claims};
+ghost use Rattle.check_claims.specs.Claims.{write_claims, own_claims, block_claims};
 ghost use Rattle.check_claims.specs.Claims.{inner_claims, param_claims, procedure_claims};
 ghost use Rattle.check_claims.specs.Claims.{placed_at, claims_of, unit_claims};
 ghost use Rattle.check_claims.specs.Claims.{claims_there, unit_claims_there};
@@ -29,7 +29,7 @@ use crate::extents::{Extents, dims_of};
 use crate::list::Claims;
 use affine_places::Roots;
 use exo_modes::ModeTable;
-use exo_tree::{Arg, Block, Branch, FieldId, Param, Path, Proc, ProcId, Step, Stmt, Unit, at};
+use exo_tree::{Arg, Block, Branch, FieldId, Param, Path, Proc, ProcId, Stmt, Unit, at};
 use std::alloc::{AllocError, Global};
 use text_show::Words;
 
@@ -85,16 +85,6 @@ pub(crate) fn put_own(
     }
 }
 
-/// The path of a statement in a branch of the statement at the path.
-pub(crate) fn into(path: &Path, branch: Branch, index: u32) -> Path
-    requires { length path.now < 32 }
-    ensures { result ≡ into path.now (branch_taken branch) index }
-{
-    let mut inner = path.duplicate();
-    inner.push(Step { branch, index });
-    inner
-}
-
 /// The claims of the statements of a block and of the blocks inside them.
 #[cycle(walk)]
 fn put_block(
@@ -117,7 +107,7 @@ fn put_block(
 {
     for k in 0..b.len() {
         let s = b.statement(k);
-        let path = into(outer, branch, k as u32);
+        let path = outer.below(branch, k as u32);
         let mut own = Claims::new(alloc);
         put_own(alloc, &mut own, site, s)?;
         own.place(out, &path)?;

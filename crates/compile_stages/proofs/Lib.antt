@@ -8,3 +8,4 @@ pub mod Printed
 pub mod Printing
 pub mod Lines
 pub mod Promise
+pub mod OfSamples

@@ -4,7 +4,7 @@ use Rattle.std.proofs.Common.{◌≡◌, ◌<◌, ◌+◌, ℕ, zero, suc, List,
 use Rattle.std.proofs.Common.{sym, ap, ◌∙◌, subst, arith, get_or, option_map, IfSome, MatchOption}
 use Rattle.exo_tree.specs.Tree.{Program}
 use Rattle.exo_meaning.specs.Orders.{Each}
-use Rattle.text_show_laws.specs.Named.{AreNamed}
+use Rattle.exo_types_laws.specs.Shown.Named.{AreNamed}
 use Rattle.schedule_text.specs.Tree as tree
 use Rattle.schedule_calls.specs.Requests.{Request}
 use Rattle.schedule_calls.specs.Readings.{Asks}

@@ -3,14 +3,14 @@ use Rattle.std.proofs.Common.{◌≡◌, ◌<◌, ◌≤◌, ◌+◌, ◌&&◌, 
 use Rattle.exo_tree.specs.Tree.{Procedure, Program}
 use Rattle.exo_tree.specs.Calls.{calls}
 use Rattle.exo_tree.specs.declared.number.ProcId.{ProcId}
-use Rattle.exo_calls.specs.Closed.{closed}
-use Rattle.exo_calls.specs.Marked.{contains, Marked, Reached}
+use Rattle.exo_modes.specs.Calls.Closed.{closed}
+use Rattle.exo_modes.specs.Calls.Marked.{contains, Marked, Reached}
 use Rattle.exo_tree.proofs.Trees.{drop_of_map}
-use Rattle.exo_calls.proofs.Sets.{marked_none, marked_then}
+use Rattle.exo_modes.proofs.OfCalls.Sets.{marked_none, marked_then}
 use Rattle.std.specs.Option.{is_some}
 use Rattle.std.proofs.lemmas.List.{drop_all}
-use Rattle.exo_calls.specs.Passed.{is_function}
-use Rattle.c_lowered.specs.LoweredUnit.{Printing}
+use Rattle.exo_modes.specs.Calls.Passed.{is_function}
+use Rattle.c_lowering.specs.Made.LoweredUnit.{Printing}
 use Rattle.c_unit_laws.specs.Listings.{printings_from}
 use Rattle.schedule_laws.specs.Versions.Versions.{Versions}
 use Rattle.compile_stages.specs.Printings.{printing_of, is_emitted, printings_of}

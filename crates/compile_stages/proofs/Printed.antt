@@ -4,6 +4,7 @@ use Rattle.std.proofs.Common.{ap, ◌∙◌, subst, true, false, true≢false}
 use Rattle.std.specs.Prelude.{Contains}
 use Rattle.std.specs.Option.{IsSome}
 use Rattle.exo_tree.specs.Tree.{ConfigField, Procedure, Program}
+use Rattle.exo_tree.specs.Named.{name_of}
 use Rattle.exo_meaning.specs.Value.{Value, Undefined, Number, IsRefinedBy}
 use Rattle.exo_meaning.specs.Scene.{Shape}
 use Rattle.exo_meaning.specs.Calls.{all_hold}
@@ -14,12 +15,12 @@ use Rattle.exo_meaning.specs.Inputs.{is_buffer_of, Refines, run_procedure}
 use Rattle.exo_meaning.specs.Units.{IsUnit}
 use Rattle.meaning_laws.specs.Chain.{HasHead}
 use Rattle.memory_kinds.specs.Faults.{fault_of}
-use Rattle.c_machine.specs.Machine.{Outcome, Done, Thing, Machine}
-use Rattle.c_lowered.specs.Lowered.{Naming}
-use Rattle.c_lowered.specs.LoweredUnit.{Printing, is_listed, name_of}
-use Rattle.c_follows.specs.Simulation.{Declared, Layout}
-use Rattle.c_follows.specs.Grounds.{naming_of, declared_in}
-use Rattle.c_follows.specs.Units.{AreLowered, LeavesTheSame, EndsWell}
+use Rattle.c_unit_laws.specs.Follows.Machine.Machine.{Outcome, Done, Thing, Machine}
+use Rattle.c_lowering.specs.Made.Lowered.{Naming}
+use Rattle.c_lowering.specs.Made.LoweredUnit.{Printing, is_listed}
+use Rattle.c_unit_laws.specs.Follows.Simulation.{Declared, Layout}
+use Rattle.c_unit_laws.specs.Follows.Grounds.{naming_of, declared_in}
+use Rattle.c_unit_laws.specs.Follows.Units.{AreLowered, LeavesTheSame, EndsWell}
 use Rattle.c_unit_laws.specs.Laws.{FilesFollow}
 use Rattle.c_unit_laws.specs.Stores.{FilesWithoutAllocationsAreDone}
 use Rattle.unit_check.specs.Faults.{NothingFaults}

@@ -2,7 +2,7 @@
 use Rattle.std.proofs.Common.{◌≡◌, ℕ, List, Option, Some, None, option_map, refl, sym, ap, ◌∙◌, subst, IfSome}
 use Rattle.memory_kinds.specs.declared.error.KindError.{KindError}
 use Rattle.c_tree.specs.CText.{text_of}
-use Rattle.c_lowered.specs.LoweredUnit.{lowered}
+use Rattle.c_lowering.specs.Made.LoweredUnit.{lowered}
 use Rattle.c_printer.specs.Refusals.{too_wide, name_clash, Refuses}
 use Rattle.c_printer.specs.declared.report.LowerError.{LowerError}
 use Rattle.c_printer.specs.declared.report.LowerError.TheVariants as lower

@@ -4,7 +4,7 @@ use Rattle.std.proofs.Common.{eqb-true, List, [], ◌∷◌, map, length, Option
 use Rattle.std.proofs.Common.{subst, arith, ⊎_elim}
 use Rattle.std.specs.Prelude.{slice_get, Result}
 use Rattle.std.proofs.lemmas.Bool.{and_parts}
-use Rattle.generated_texts.specs.Texts.{unit_text, schedule_text}
+use Rattle.compile_stages.specs.Samples.Texts.{unit_text, schedule_text}
 use Rattle.text_phrases.specs.Limits.{in_size}
 use Rattle.text_phrases.specs.Text.{IsText}
 use Rattle.exo_tree.specs.Tree.{Procedure, Program}
@@ -15,15 +15,15 @@ use Rattle.exo_reader.specs.declared.unit.ReadError.{ReadError}
 use Rattle.exo_reader.specs.declared.unit.Source.{Source}
 use Rattle.exo_types.specs.UnitRules.{unit_of}
 use Rattle.text_show.specs.ProcedureText.{shown as text_shown}
-use Rattle.text_show_laws.specs.Laws.{ShownIsRead}
-use Rattle.text_show_laws.specs.Naming.{ReadUnitsAreNamed, NamedUnitsAreWritable}
-use Rattle.text_show_laws.specs.Writable.{IsWritable}
+use Rattle.exo_types_laws.specs.Shown.Laws.{ShownIsRead}
+use Rattle.exo_types_laws.specs.Shown.Naming.{ReadUnitsAreNamed, NamedUnitsAreWritable}
+use Rattle.exo_types_laws.specs.Shown.Writable.{IsWritable}
 use Rattle.memory_kinds.specs.declared.error.KindError.{KindError}
 use Rattle.memory_kinds.specs.Faults.{fault_of}
 use Rattle.c_tree.specs.CText.{text_of}
-use Rattle.c_lowered.specs.LoweredUnit.{Printing, is_listed, lowered}
+use Rattle.c_lowering.specs.Made.LoweredUnit.{Printing, is_listed, lowered}
 use Rattle.c_printer.specs.Refusals.{too_wide, name_clash}
-use Rattle.c_follows.specs.Units.{AreLowered}
+use Rattle.c_unit_laws.specs.Follows.Units.{AreLowered}
 use Rattle.c_unit_laws.specs.Listings.{PrintingsAreListings}
 use Rattle.unit_check.specs.Checked.{Shown, checked}
 use Rattle.unit_check.specs.Faults.{NothingFaults}

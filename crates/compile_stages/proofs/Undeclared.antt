@@ -13,10 +13,11 @@ use Rattle.exo_meaning.specs.Inputs.{all_have_extents, run_procedure}
 use Rattle.exo_meaning.specs.Units.{scope_of, field_kind, IsUnit}
 use Rattle.meaning_laws.specs.Fields.{writes_field, step_writes_field, HasField, FieldsAreKept}
 use Rattle.meaning_laws.specs.UnitFields.{written_at, written_by, all_written, unit_writes, UnitLeaves}
-use Rattle.exo_calls.proofs.Reach.{seeds_are_closed, closed_is_closed}
-use Rattle.c_lowered.specs.LoweredUnit.{Printing, in_condition, in_argument, in_arguments, in_statement}
-use Rattle.c_lowered.specs.LoweredUnit.{in_block, in_conditions, is_listed, counts, is_used}
-use Rattle.c_follows.specs.Grounds.{declared_in}
+use Rattle.exo_modes.proofs.OfCalls.Reach.{seeds_are_closed, closed_is_closed}
+use Rattle.c_lowering.specs.Made.LoweredUnit.{Printing, in_condition, in_argument, in_arguments}
+use Rattle.c_lowering.specs.Made.LoweredUnit.{in_statement}
+use Rattle.c_lowering.specs.Made.LoweredUnit.{in_block, in_conditions, is_listed, counts, is_used}
+use Rattle.c_unit_laws.specs.Follows.Grounds.{declared_in}
 use Rattle.compile_stages.specs.Undeclared.{UndeclaredFieldsStay}
 use Rattle.c_unit_laws.proofs.Fields.{is_there, block_there}
 use Rattle.c_unit_laws.proofs.Standing.{some_same, formed_at, calls_before}

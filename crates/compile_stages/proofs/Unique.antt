@@ -1,6 +1,6 @@
 -- Each way comes to one end.
 use Rattle.std.proofs.Common.{◌≡◌, ℕ, List, Option, Some, None, refl, sym, ap, ◌∙◌, subst, ⊎_elim}
-use Rattle.generated_texts.specs.Texts.{unit_text, schedule_text}
+use Rattle.compile_stages.specs.Samples.Texts.{unit_text, schedule_text}
 use Rattle.text_phrases.specs.Limits.{in_size}
 use Rattle.text_phrases.specs.Text.{IsText}
 use Rattle.text_lexer.specs.declared.place.Place.{Place}

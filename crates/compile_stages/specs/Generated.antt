@@ -1,6 +1,6 @@
 -- What is promised of the summary of the texts of a number.
 use Rattle.std.specs.Prelude.{◌≡◌, ℕ, List}
-use Rattle.generated_texts.specs.Texts.{unit_text, schedule_text}
+use Rattle.compile_stages.specs.Samples.Texts.{unit_text, schedule_text}
 use Rattle.compile_stages.specs.Stages.{summary}
 use Rattle.compile_stages.specs.Promise.{Promise}
 

@@ -10,3 +10,4 @@ pub mod Shown
 pub mod Counted
 pub mod Generated
 pub mod Laws
+pub mod Samples

@@ -2,10 +2,11 @@
 use Rattle.std.specs.Prelude.{ℕ, ◌==◌, ◌||◌, Bool, false, List, [], ◌∷◌}
 use Rattle.std.specs.Prelude.{Option, Some, None}
 use Rattle.exo_tree.specs.Tree.{Program}
+use Rattle.exo_tree.specs.Named.{name_of}
 use Rattle.config_laws.specs.Differing.{differing}
 use Rattle.memory_kinds.specs.Faults.{fault_of}
 use Rattle.memory_kinds.specs.declared.error.KindError.{KindError}
-use Rattle.c_lowered.specs.LoweredUnit.{Printing, name_of}
+use Rattle.c_lowering.specs.Made.LoweredUnit.{Printing}
 use Rattle.c_unit_laws.specs.Listings.{printings}
 use Rattle.schedule_laws.specs.Versions.Versions.{Versions, version_at}
 use Rattle.schedule_run.specs.Roots.{root_of}

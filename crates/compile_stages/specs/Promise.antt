@@ -19,15 +19,15 @@ use Rattle.exo_reader.specs.Texts.{tokens_of}
 use Rattle.exo_types.specs.UnitRules.{unit_fault, unit_of}
 use Rattle.c_widths.specs.Few.{fewness_of}
 use Rattle.c_tree.specs.CText.{text_of}
-use Rattle.c_machine.specs.CRun.{Behaviour, run_file}
-use Rattle.c_machine.specs.Machine.{Outcome, Done, Thing, Machine}
-use Rattle.c_lowered.specs.Lowered.{Naming}
-use Rattle.c_lowered.specs.LoweredUnit.{Printing, lowered}
+use Rattle.c_unit_laws.specs.Follows.Machine.CRun.{Behaviour, run_file}
+use Rattle.c_unit_laws.specs.Follows.Machine.Machine.{Outcome, Done, Thing, Machine}
+use Rattle.c_lowering.specs.Made.Lowered.{Naming}
+use Rattle.c_lowering.specs.Made.LoweredUnit.{Printing, lowered}
 use Rattle.c_printer.specs.Refusals.{too_wide, name_clash}
-use Rattle.c_follows.specs.Simulation.{Declared, Layout, IsOutside, in_range, spot_of}
-use Rattle.c_follows.specs.Templates.{TemplatesDoTheirBodies}
-use Rattle.c_follows.specs.Grounds.{naming_of, declared_in}
-use Rattle.c_follows.specs.Units.{IsListing, IsSameStart, EndsWell}
+use Rattle.c_unit_laws.specs.Follows.Simulation.{Declared, Layout, IsOutside, in_range, spot_of}
+use Rattle.c_unit_laws.specs.Follows.Templates.{TemplatesDoTheirBodies}
+use Rattle.c_unit_laws.specs.Follows.Grounds.{naming_of, declared_in}
+use Rattle.c_unit_laws.specs.Follows.Units.{IsListing, IsSameStart, EndsWell}
 use Rattle.c_unit_laws.specs.Stores.{allocates_nothing}
 use Rattle.schedule_text.specs.Tree as tree
 use Rattle.schedule_text.specs.Grammar.{schedule as schedule_text}

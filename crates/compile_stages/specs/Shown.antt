@@ -7,9 +7,9 @@ use Rattle.exo_reader.specs.declared.unit.ReadError.{ReadError}
 use Rattle.exo_reader.specs.declared.unit.Source.{Source}
 use Rattle.exo_types.specs.UnitRules.{unit_of}
 use Rattle.text_show.specs.ProcedureText.{shown}
-use Rattle.text_show_laws.specs.Laws.{ReadsBack}
-use Rattle.text_show_laws.specs.Sizes.{IsWithinItem}
-use Rattle.text_show_laws.specs.Written.{written}
+use Rattle.exo_types_laws.specs.Shown.Laws.{ReadsBack}
+use Rattle.exo_types_laws.specs.Shown.Sizes.{IsWithinItem}
+use Rattle.exo_types_laws.specs.Shown.Written.{written}
 use Rattle.schedule_laws.specs.Versions.Versions.{Versions, version_of}
 use Rattle.compile_stages.specs.Promise.{AreMade, ComesFrom}
 

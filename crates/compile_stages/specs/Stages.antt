@@ -5,12 +5,13 @@
 use Rattle.std.specs.Prelude.{◌≡◌, ℕ, ◌⊎◌, List, [], Option, Some, None, slice_get, slice_index}
 use Rattle.std.specs.Prelude.{◌==◌, codes}
 use Rattle.std.specs.List.{count_by}
-use Rattle.generated_texts.specs.Texts as generated
+use Rattle.compile_stages.specs.Samples.Texts as generated
 use Rattle.text_phrases.specs.Text.{IsText}
 use Rattle.text_lexer.specs.declared.place.Place.{Place}
 use Rattle.exo_tree.specs.Tree.{Program}
 use Rattle.exo_tree.specs.Places.{Path}
 use Rattle.exo_tree.specs.declared.lines.ProcLines.{ProcLines}
+use Rattle.exo_tree.specs.Named.{name_of}
 use Rattle.exo_meaning.specs.Units.{IsUnit}
 use Rattle.exo_reader.specs.Source.{Item}
 use Rattle.exo_reader.specs.Items.{unit}
@@ -31,7 +32,7 @@ use Rattle.unit_check.specs.Checked.{Cause, NotListed, NotShown, Checked, Shown,
 use Rattle.unit_check.specs.Preorder.{line_in}
 use Rattle.c_tree.specs.CText.{text_of}
 use Rattle.memory_kinds.specs.declared.error.KindError.{KindError}
-use Rattle.c_lowered.specs.LoweredUnit.{Printing, name_of, lowered}
+use Rattle.c_lowering.specs.Made.LoweredUnit.{Printing, lowered}
 use Rattle.c_printer.specs.Refusals.{too_wide, name_clash}
 use Rattle.schedule_text.specs.Tree as tree
 use Rattle.schedule_text.specs.Grammar as grammar

@@ -10,8 +10,8 @@ use Rattle.rules_names.specs.declared.error.TypeError.{TypeError}
 use Rattle.rules_names.specs.declared.error.TypeKind.{TypeKind}
 use Rattle.rules_names.specs.declared.error.TypeKind.TheVariants as rule
 use Rattle.exo_tree.specs.Tree.{Program}
+use Rattle.exo_tree.specs.Named.{name_of}
 use Rattle.memory_kinds.specs.declared.error.KindError.{KindError}
-use Rattle.c_lowered.specs.LoweredUnit.{name_of}
 use Rattle.c_printer.specs.PlainPrinted.{printing}
 use Rattle.c_printer.specs.declared.report.Printed.{Printed}
 use Rattle.c_printer.specs.declared.report.LowerError.{LowerError}

@@ -5,8 +5,8 @@ use Rattle.exo_meaning.specs.State.{State}
 use Rattle.exo_meaning.specs.Run.{program_world}
 use Rattle.exo_meaning.specs.Inputs.{run_procedure}
 use Rattle.exo_meaning.specs.Units.{IsUnit}
-use Rattle.c_lowered.specs.LoweredUnit.{Printing, is_listed}
-use Rattle.c_follows.specs.Grounds.{declared_in}
+use Rattle.c_lowering.specs.Made.LoweredUnit.{Printing, is_listed}
+use Rattle.c_unit_laws.specs.Follows.Grounds.{declared_in}
 
 -- A run of a printed procedure leaves each of them as it was.
 abbrev pub UndeclaredFieldsStay : Type 0

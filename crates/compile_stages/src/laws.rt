@@ -35,9 +35,9 @@ pub fn displayed_is_promised()
     schedule_run::laws::schedules_keep();
     schedule_run::laws::small_units_have_room();
     schedule_laws::versions::laws::runs_hold_versions();
-    text_show_laws::laws::shown_is_read();
-    text_show_laws::laws::read_units_are_named();
-    text_show_laws::laws::named_units_are_writable();
+    exo_types_laws::shown::laws::shown_is_read();
+    exo_types_laws::shown::laws::read_units_are_named();
+    exo_types_laws::shown::laws::named_units_are_writable();
     schedule_laws::names::laws::lines_give_names();
     schedule_laws::names::laws::schedules_keep_names();
 }

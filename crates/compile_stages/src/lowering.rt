@@ -1,7 +1,7 @@
 // The last stages of a compilation: from what is to be printed to the text of the C.
 ghost use Rattle.std.specs.Prelude.{◌≡◌, IfOk, IfSome, Some, map, slice_get, string_bytes};
 ghost use Rattle.exo_tree.specs.PlainUnit.{program};
-ghost use Rattle.c_lowered.specs.LoweredUnit.{name_of};
+ghost use Rattle.exo_tree.specs.Named.{name_of};
 ghost use Rattle.compile_stages.specs.Stops as stop;
 ghost use Rattle.compile_stages.specs.Stages.{lowered_text, printed};
 ghost use Rattle.compile_stages.specs.Stopping.{made_of, plain, stage, stop_of};
@@ -10,18 +10,8 @@ use crate::memories::{MemoryFault, memory_fault};
 use crate::stop::Stop;
 use c_printer::{LowerError, Printed, lower};
 use c_tree::c_text;
-use exo_tree::{Name, ProcId, Unit};
+use exo_tree::{Name, Unit};
 use std::alloc::{AllocError, Global};
-
-/// The name of a procedure; empty where the unit has none of that number.
-fn name_of(unit: &Unit, k: ProcId) -> &str
-    ensures { result.now ≡ name_of (slice_get unit.now.procs k.0) }
-{
-    match unit.procs.get(k.0 as usize) {
-        Some(p) => p.name.as_str(),
-        None => "",
-    }
-}
 
 /// The text of the C of what is to be printed.
 pub(crate) fn printed(alloc: Global, unit: &Unit, what: &[Printed]) -> Result<String, Stop>
@@ -37,7 +27,7 @@ pub(crate) fn printed(alloc: Global, unit: &Unit, what: &[Printed]) -> Result<St
 fn not_kept(alloc: Global, unit: &Unit, fault: MemoryFault) -> Result<Stop, AllocError>
     ensures { IfOk result (λ why. plain why ≡ Some (stop.WrongMemory (name_of (slice_get unit.now.procs fault.proc.0)) fault.rule)) }
 {
-    let name = Name::new(alloc, name_of(unit, fault.proc))?;
+    let name = Name::new(alloc, unit.name_of(fault.proc))?;
     Ok(Stop::WrongMemory(name, fault.rule))
 }
 
@@ -56,7 +46,7 @@ fn not_lowered(alloc: Global, unit: &Unit, e: LowerError) -> Result<Stop, AllocE
     ensures { IfOk result (λ why. plain why ≡ stop_of (program unit.now) e) }
 {
     match e {
-        LowerError::TooWide(k) => Ok(Stop::TooWide(Name::new(alloc, name_of(unit, k))?)),
+        LowerError::TooWide(k) => Ok(Stop::TooWide(Name::new(alloc, unit.name_of(k))?)),
         LowerError::NameClash(name) => Ok(Stop::NameClash(name)),
         LowerError::Memory => Err(AllocError),
     }

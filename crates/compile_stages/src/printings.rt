@@ -1,12 +1,11 @@
 // What is printed of the versions of a schedule.
-ghost use Rattle.std.specs.Prelude.{◌≡◌, ◌<◌, ◌&&◌, ℕ, false, length, map, replicate, slice_get};
+ghost use Rattle.std.specs.Prelude.{◌≡◌, ◌<◌, ◌&&◌, ℕ, false, length, map, replicate};
 ghost use Rattle.std.specs.Prelude.{IfOk};
 ghost use Rattle.exo_tree.specs.PlainProcedure.{procedure};
 ghost use Rattle.exo_tree.specs.PlainUnit.{program};
-ghost use Rattle.exo_calls.specs.Closed.{closed};
-ghost use Rattle.exo_calls.specs.Marked.{Marked, contains};
-ghost use Rattle.exo_calls.specs.Passed.{is_function};
-ghost use Rattle.c_lowered.specs.LoweredUnit.{name_of};
+ghost use Rattle.exo_modes.specs.Calls.Closed.{closed};
+ghost use Rattle.exo_modes.specs.Calls.Marked.{Marked, contains};
+ghost use Rattle.exo_modes.specs.Calls.Passed.{is_function};
 ghost use Rattle.c_printer.specs.PlainPrinted.{printing};
 ghost use Rattle.c_unit_laws.specs.Listings.{printings_from};
 ghost use Rattle.config_live.specs.Tables.{IsLiveTable};
@@ -15,7 +14,7 @@ ghost use Rattle.compile_stages.specs.Printings.{is_emitted, printing_of, printi
 
 use c_printer::Printed;
 use config_live::{LiveTable, differing};
-use exo_calls::{Marks, Through, close};
+use exo_modes::calls::{Marks, Through, close};
 use exo_tree::{Name, Proc, ProcId, Unit};
 use schedule_run::Session;
 use std::alloc::{AllocError, Global};
@@ -42,16 +41,6 @@ fn reached(alloc: Global, unit: &Unit, emitted: &[ProcId]) -> Result<Marks, Allo
     let mut marks = emitted_marks(alloc, unit.procs.len(), emitted)?;
     close(unit, Through::Functions, &mut marks);
     Ok(marks)
-}
-
-/// The name of a version; empty where there is none of that number.
-fn name_of(alloc: Global, unit: &Unit, k: ProcId) -> Result<Name, AllocError>
-    ensures { IfOk result (λ name. name ≡ name_of (slice_get (program unit.now).procedures k.0)) }
-{
-    match unit.procs.get(k.0 as usize) {
-        Some(p) => p.name.duplicate(alloc),
-        None => Name::new(alloc, ""),
-    }
 }
 
 /// Whether a procedure is no instruction.
@@ -84,7 +73,7 @@ fn printed(
     };
     let proc = ProcId(number);
     let root = session.root(proc);
-    let origin = name_of(alloc, &session.unit, root)?;
+    let origin = Name::new(alloc, session.unit.name_of(root))?;
     let fields = differing(alloc, &session.unit, table, &session.origins, proc, root)?;
     Ok(Printed {
         proc,

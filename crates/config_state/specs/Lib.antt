@@ -1,3 +1,4 @@
 pub mod FieldSets
 pub mod Reads
 pub mod Pieces
+pub mod Steps

@@ -5,6 +5,7 @@ mod expression;
 mod piece;
 mod reading;
 mod set;
+pub mod steps;
 mod writes;
 
 pub use expression::{

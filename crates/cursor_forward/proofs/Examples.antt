@@ -6,7 +6,7 @@ use Rattle.exo_tree.specs.Context.{Here, InLoop}
 use Rattle.exo_tree.specs.Places.{Main, Path, Opened}
 use Rattle.cursor_forward.specs.Shifts.{Shift, at_index, range, alone, Edits, edits_of, move_of}
 use Rattle.cursor_forward.specs.Forwards.{Carries, Forwards}
-use Rattle.cursor_patterns.specs.Patterns as pattern
+use Rattle.cursor_forward.specs.Search.Patterns as pattern
 use Rattle.cursor_forward.specs.Cursors.{Node, Range, Gap, Before, parent_of, body_of, next_of, forward_of}
 use Rattle.cursor_forward.specs.Patterns.{CanBeSearched, find_of}
 use Rattle.cursor_forward.proofs.Lands.{step}

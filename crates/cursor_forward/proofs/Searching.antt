@@ -4,10 +4,10 @@ use Rattle.std.proofs.lemmas.List.{drop_all}
 use Rattle.std.specs.Prelude.{slice_get, max, ◌&&◌, ◌^◌, nat_lt}
 use Rattle.exo_tree.specs.Tree.{Statement, block, statements, Program}
 use Rattle.exo_tree.specs.Heights.{height, height_below}
-use Rattle.exo_tree.specs.Places.{Branch, Path}
+use Rattle.exo_tree.specs.Places.{Branch, Path, path_below}
 use Rattle.exo_meaning.specs.Units.{is_short}
-use Rattle.cursor_patterns.specs.Patterns.{Pattern}
-use Rattle.cursor_forward.specs.Patterns.{matching, matching_at, found_after, into, are_short, all_short, is_short_below}
+use Rattle.cursor_forward.specs.Search.Patterns.{Pattern}
+use Rattle.cursor_forward.specs.Patterns.{matching, matching_at, found_after, are_short, all_short, is_short_below}
 use Rattle.cursor_forward.proofs.Lasts.{statements_block}
 use Rattle.cursor_forward.proofs.Ranges.{both_true}
 
@@ -50,7 +50,7 @@ starts unit w outer r first b nth l s = record { same = refl; passed = refl; low
 -- what can be done with a statement
 pub record CanBeWalked (outer : Path) (r : Branch) (k : ℕ) (a : Statement) : Type 0 where
   pub room : length outer < 32
-  pub low : length (into outer r k) + height_below a ≤ 32
+  pub low : length (path_below outer r k) + height_below a ≤ 32
   pub short : is_short_below a ≡ true
 
 module _ (unit : Program) (w : Pattern) (outer : Path) (r : Branch) (first : Option ℕ) (b : List Statement) (nth k : ℕ) (found : Option ℕ) (left : ℕ) (walked : IsWalked unit w outer r first b nth k found left) where
@@ -58,25 +58,25 @@ module _ (unit : Program) (w : Pattern) (outer : Path) (r : Branch) (first : Opt
   can_be_walked a e =
       let low : length outer + max (1 + height_below a) (height (block (drop (k + 1) b))) ≤ 32 = subst (λ (l : List Statement). length outer + height (block l) ≤ 32) e walked.low in
       let short : (is_short_below a && all_short (block (drop (k + 1) b))) ≡ true = ap (λ (l : List Statement). all_short (block l)) (sym e) ∙ walked.short in
-      let one : length (into outer r k) ≡ length outer + 1 = length-append outer (record { branch = r; index = k } ∷ []) in
+      let one : length (path_below outer r k) ≡ length outer + 1 = length-append outer (record { branch = r; index = k } ∷ []) in
       record { room = omega (arith, low); low = omega (arith, low, one); short = (both_true (is_short_below a) (all_short (block (drop (k + 1) b))) short).0 }
 
   -- the matches of the next statement, and then of those behind it
-  split : (a : Statement) → drop k b ≡ a ∷ drop (k + 1) b → matching unit w outer r k found (block (drop k b)) ≡ matching_at unit w (into outer r k) found a ++ matching unit w outer r (k + 1) (found_after w found a) (block (drop (k + 1) b))
+  split : (a : Statement) → drop k b ≡ a ∷ drop (k + 1) b → matching unit w outer r k found (block (drop k b)) ≡ matching_at unit w (path_below outer r k) found a ++ matching unit w outer r (k + 1) (found_after w found a) (block (drop (k + 1) b))
   split a e =
       let one : suc k ≡ k + 1 = omega arith in
       ap (λ (l : List Statement). matching unit w outer r k found (block l)) e
-      ∙ ap (λ (n : ℕ). matching_at unit w (into outer r k) found a ++ matching unit w outer r n (found_after w found a) (block (drop (k + 1) b))) one
+      ∙ ap (λ (n : ℕ). matching_at unit w (path_below outer r k) found a ++ matching unit w outer r n (found_after w found a) (block (drop (k + 1) b))) one
 
-  pub found_here : (a : Statement) (p : Path) → drop k b ≡ a ∷ drop (k + 1) b → slice_get (matching_at unit w (into outer r k) found a) left ≡ Some p → slice_get (matching unit w outer r 0 first (block b)) nth ≡ Some p
+  pub found_here : (a : Statement) (p : Path) → drop k b ≡ a ∷ drop (k + 1) b → slice_get (matching_at unit w (path_below outer r k) found a) left ≡ Some p → slice_get (matching unit w outer r 0 first (block b)) nth ≡ Some p
   found_here a p e h =
       walked.same
       ∙ ap (λ (l : List Path). slice_get l left) (split a e)
-      ∙ among_first (matching_at unit w (into outer r k) found a) (matching unit w outer r (k + 1) (found_after w found a) (block (drop (k + 1) b))) left p h
+      ∙ among_first (matching_at unit w (path_below outer r k) found a) (matching unit w outer r (k + 1) (found_after w found a) (block (drop (k + 1) b))) left p h
 
-  pub walks_on : (a : Statement) (further : ℕ) → drop k b ≡ a ∷ drop (k + 1) b → slice_get (matching_at unit w (into outer r k) found a) left ≡ None → further ≡ left - length (matching_at unit w (into outer r k) found a) → IsWalked unit w outer r first b nth (k + 1) (found_after w found a) further
+  pub walks_on : (a : Statement) (further : ℕ) → drop k b ≡ a ∷ drop (k + 1) b → slice_get (matching_at unit w (path_below outer r k) found a) left ≡ None → further ≡ left - length (matching_at unit w (path_below outer r k) found a) → IsWalked unit w outer r first b nth (k + 1) (found_after w found a) further
   walks_on a further e h f =
-      let own : List Path = matching_at unit w (into outer r k) found a in
+      let own : List Path = matching_at unit w (path_below outer r k) found a in
       let rest : List Path = matching unit w outer r (k + 1) (found_after w found a) (block (drop (k + 1) b)) in
       let low : length outer + max (1 + height_below a) (height (block (drop (k + 1) b))) ≤ 32 = subst (λ (l : List Statement). length outer + height (block l) ≤ 32) e walked.low in
       let short : (is_short_below a && all_short (block (drop (k + 1) b))) ≡ true = ap (λ (l : List Statement). all_short (block l)) (sym e) ∙ walked.short in

@@ -7,3 +7,4 @@ pub mod PlainShift
 pub mod PlainCursor
 pub mod Proposals
 pub mod PlainProposal
+pub mod Search

@@ -8,9 +8,9 @@ use Rattle.exo_tree.specs.Tree.{Block, end, next, statements, Param, Procedure, 
 use Rattle.exo_tree.specs.Tree.{Program}
 use Rattle.exo_tree.specs.Heights.{height}
 use Rattle.exo_meaning.specs.Units.{is_short, IsUnit}
-use Rattle.exo_tree.specs.Places.{Branch, Main, Else, Path}
-use Rattle.cursor_patterns.specs.Patterns as pattern
-use Rattle.cursor_patterns.specs.Patterns.{Pattern}
+use Rattle.exo_tree.specs.Places.{Branch, Main, Else, Path, path_below}
+use Rattle.cursor_forward.specs.Search.Patterns as pattern
+use Rattle.cursor_forward.specs.Search.Patterns.{Pattern}
 use Rattle.cursor_forward.specs.Cursors.{Cursor, Node}
 
 -- ---- names
@@ -89,9 +89,6 @@ found_after w found a = elim (name_in w) [ None ↦ found | Some x ↦ meant_aft
 abbrev pub found_first : Pattern → List Param → Option ℕ
 found_first w params = option_and_then (λ x. parameter_called x params) (name_in w)
 
-abbrev pub into : Path → Branch → ℕ → Path
-into outer branch n = outer ++ record { branch = branch; index = n } ∷ []
-
 -- the place of the statement itself, where it matches
 abbrev pub alone : Bool → Path → List Path
 alone true path = path ∷ []
@@ -103,8 +100,8 @@ module _ (unit : Program) (w : Pattern) where
     pub matching : Path → Branch → ℕ → Option ℕ → Block → List Path
     matching outer branch n found end = []
     matching outer branch n found (next a b) =
-        (alone (matches unit w found a) (into outer branch n)
-        ++ matching_below (into outer branch n) found a)
+        (alone (matches unit w found a) (path_below outer branch n)
+        ++ matching_below (path_below outer branch n) found a)
         ++ matching outer branch (suc n) (found_after w found a) b
 
     pub matching_below : Path → Option ℕ → Statement → List Path

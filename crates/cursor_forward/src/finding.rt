@@ -7,7 +7,7 @@ ghost use Rattle.exo_tree.specs.Heights.{height, height_below};
 ghost use Rattle.exo_tree.specs.Plain.{binding, statement, procedure, program};
 ghost use Rattle.exo_tree.specs.PlainPlace.{branch_taken, step_taken};
 ghost use Rattle.exo_tree.specs.Tree.{block};
-ghost use Rattle.cursor_patterns.specs.PlainPattern.{plain_pattern};
+ghost use Rattle.cursor_forward.specs.Search.PlainPattern.{plain_pattern};
 ghost use Rattle.cursor_forward.specs.Patterns.{find_of, found_after, is_called, is_meant};
 ghost use Rattle.cursor_forward.specs.Patterns.{is_number, is_loop_called, is_one_loop};
 ghost use Rattle.cursor_forward.specs.Patterns.{is_procedure_called, is_field_called, matches};
@@ -17,7 +17,7 @@ ghost use Rattle.cursor_forward.specs.Patterns.{parameter_called};
 ghost use Rattle.cursor_forward.specs.PlainCursor.{plain_cursor};
 
 use crate::cursor::Cursor;
-use cursor_patterns::Pattern;
+use crate::search::Pattern;
 use exo_tree::{Block, Branch, FieldId, Id, Name, Params, Path, ProcId, Step, Stmt, Unit};
 
 /// Whether a name is the one that is asked for.

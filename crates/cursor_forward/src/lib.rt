@@ -1,4 +1,5 @@
-//! Cursors, how they move, and how they follow their statements through the steps of a schedule.
+//! Patterns and cursors: how they find, how they move, and how they follow their statements
+//! through the steps of a schedule.
 #![tactic(auto)]
 
 mod cursor;
@@ -8,6 +9,7 @@ pub mod laws;
 mod moves;
 mod paths;
 mod proposal;
+pub mod search;
 mod shift;
 
 pub use cursor::{Cursor, Side, forward};

@@ -17,3 +17,4 @@ pub mod FitExamples
 pub mod Fits
 pub mod Pairs
 pub mod PairExamples
+pub mod OfBounds

@@ -5,3 +5,4 @@ pub mod Apart
 pub mod Fits
 pub mod Pairs
 pub mod Words
+pub mod Bounds

@@ -2,7 +2,7 @@
 use Rattle.std.proofs.Common.{◌≡◌, ℕ, ◌⊎◌, inl, inr, ⊎_elim, List, Option, Some, refl, subst, IfSome}
 use Rattle.exo_cli.specs.declared.status.Status.{Status}
 use Rattle.exo_cli.specs.declared.status.Status.TheVariants.{Ok, Refused, Usage, ReadFault, WriteFault, Memory}
-use Rattle.cli_outside.specs.Outside.{Folder, with_more}
+use Rattle.exo_cli.specs.Outside.Outside.{Folder, with_more}
 use Rattle.compile_stages.specs.Stages.{EndsAreOne}
 use Rattle.exo_cli.specs.Answer.{Answer, status_of, for_out, for_err}
 use Rattle.exo_cli.specs.Work.{Answers, Moment, EndsAreComplete}

@@ -5,7 +5,8 @@ use Rattle.std.specs.Prelude.{Contains}
 use Rattle.std.specs.Option.{option_map_or}
 use Rattle.exo_cli.specs.declared.status.Status.{Status}
 use Rattle.exo_cli.specs.declared.status.Status.TheVariants.{Ok, Usage, ReadFault, WriteFault, Memory}
-use Rattle.cli_outside.specs.Outside.{Folder, content_of, HasBytes, Rose, with_more, StopsWithin}
+use Rattle.exo_cli.specs.Outside.Outside.{Folder, content_of, HasBytes, Rose, with_more}
+use Rattle.exo_cli.specs.Outside.Outside.{StopsWithin}
 use Rattle.exo_cli.specs.Messages.{usage, file_refused}
 use Rattle.compile_stages.specs.Stages.{Stage, Passed, Stopped, Generates, Checks}
 use Rattle.exo_cli.specs.Words.{Command, Check, Gen, command_of, files_of}
@@ -13,7 +14,7 @@ use Rattle.exo_cli.specs.Answer.{Answer, Accepted, Rejected, Unread, Misused, an
 use Rattle.exo_cli.specs.Answer.{status_of, for_out, for_err, IsVerdict}
 use Rattle.exo_cli.specs.Work.{Stays, file_limit, Opens, OpensBoth, AnswersTo, Answers, operands, IsReadFault}
 use Rattle.exo_cli.specs.Work.{IsAnswerTo, IsAnswer, EndsAt, Moment, OutFails, ErrFails, Ends}
-use Rattle.cli_outside.proofs.Taking.{with_more-nothing}
+use Rattle.exo_cli.proofs.OfOutside.Taking.{with_more-nothing}
 
 -- a file that is told and short enough is handed on
 pub opened-within : (held : Option (List ℕ)) (name bytes : List ℕ) (next : List ℕ → Answer → Type 0) (reply : Answer)

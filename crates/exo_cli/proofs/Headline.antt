@@ -1,7 +1,7 @@
 -- What stands behind what the program writes where it ends well.
 use Rattle.std.proofs.Common.{◌≡◌, ◌≢◌, inl, inr, ℕ, List, [], Bool, true, false, Option, Some, None}
 use Rattle.std.proofs.Common.{length, nat_lt, codes, refl, sym, subst, MatchBool, MatchOption, IfSome}
-use Rattle.cli_outside.specs.Outside.{Folder, content_of, with_more}
+use Rattle.exo_cli.specs.Outside.Outside.{Folder, content_of, with_more}
 use Rattle.compile_stages.specs.Stages.{Stage, Passed, Stopped, Compiles, Displays, Generates, Checks}
 use Rattle.compile_stages.specs.Laws.{CompiledIsPromised, DisplayedIsPromised, GeneratedIsPromised, CheckedIsCounted}
 use Rattle.exo_cli.specs.declared.status.Status.{Status}

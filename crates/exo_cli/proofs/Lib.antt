@@ -3,3 +3,4 @@ pub mod Unique
 pub mod Complete
 pub mod Headline
 pub mod Replying
+pub mod OfOutside

@@ -2,7 +2,7 @@
 use Rattle.std.proofs.Common.{◌≡◌, ℕ, List, Option, Some, sym, subst, MatchOption}
 use Rattle.std.specs.Prelude.{Result, Ok, Err, IfOk}
 use Rattle.std.specs.declared.alloc.AllocError.{AllocError}
-use Rattle.cli_outside.specs.Outside.{Folder}
+use Rattle.exo_cli.specs.Outside.Outside.{Folder}
 use Rattle.exo_cli.specs.declared.reply.Reply.{Reply}
 use Rattle.exo_cli.specs.Messages.{usage}
 use Rattle.exo_cli.specs.Words.{Command, Gen, command_of}

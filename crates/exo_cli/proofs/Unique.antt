@@ -1,7 +1,7 @@
 -- The words and the files have one answer.
 use Rattle.std.proofs.Common.{◌≡◌, ℕ, List, [], Bool, true, false, Option, Some, None, length, nat_lt}
 use Rattle.std.proofs.Common.{codes, sym, ap, ◌∙◌, MatchBool, MatchOption}
-use Rattle.cli_outside.specs.Outside.{Folder, content_of}
+use Rattle.exo_cli.specs.Outside.Outside.{Folder, content_of}
 use Rattle.compile_stages.specs.Stages.{Stage, Compiles, Displays, Generates, Checks, EndsAreOne}
 use Rattle.exo_cli.specs.Messages.{usage, file_refused}
 use Rattle.exo_cli.specs.Words.{Command, Compile, Check, Show, Gen, command_of}

@@ -1,6 +1,6 @@
 -- What the program promises of a check that ends well.
 use Rattle.std.specs.Prelude.{◌≡◌, ℕ, List, Option, Some}
-use Rattle.cli_outside.specs.Outside.{Folder, content_of, with_more}
+use Rattle.exo_cli.specs.Outside.Outside.{Folder, content_of, with_more}
 use Rattle.compile_stages.specs.Counted.{IsCounted}
 use Rattle.exo_cli.specs.Words.{Check, command_of}
 

@@ -7,3 +7,4 @@ pub mod Replies
 pub mod Work
 pub mod Counted
 pub mod Headline
+pub mod Outside

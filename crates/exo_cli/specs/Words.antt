@@ -4,7 +4,7 @@ use Rattle.std.specs.Prelude.{Option, Some, None, option_map, if◌then◌else�
 use Rattle.std.specs.Str.{bytes_eq}
 use Rattle.std.specs.declared.string.String.{String}
 use Rattle.std.specs.declared.alloc.Global.{Global}
-use Rattle.generated_texts.specs.Numbers.{number_of}
+use Rattle.compile_stages.specs.Samples.Numbers.{number_of}
 
 -- what the program is asked to do; its operands are names of files, the last of `show` that of a
 -- version, and that of `gen` a number

@@ -6,7 +6,8 @@ use Rattle.exo_cli.specs.declared.status.Status.{Status}
 use Rattle.exo_cli.specs.declared.status.Status.TheVariants.{Ok, Usage, ReadFault, WriteFault}
 use Rattle.exo_cli.specs.declared.status.Status.TheVariants.{Memory}
 use Rattle.compile_stages.specs.Stages.{Compiles, Displays, Generates, Checks}
-use Rattle.cli_outside.specs.Outside.{Folder, content_of, IsLonger, Rose, with_more, StopsWithin}
+use Rattle.exo_cli.specs.Outside.Outside.{Folder, content_of, IsLonger, Rose, with_more}
+use Rattle.exo_cli.specs.Outside.Outside.{StopsWithin}
 use Rattle.exo_cli.specs.Messages.{usage, cannot_read, file_refused}
 use Rattle.exo_cli.specs.Words.{Command, Compile, Check, Show, Gen, command_of, files_of}
 use Rattle.exo_cli.specs.Answer.{Answer, Accepted, Rejected, Unread, Misused, IsAnswerOf}

@@ -1,13 +1,13 @@
 // What the program replies, and how it is delivered.
 ghost use Rattle.std.specs.Prelude.{◌≡◌, ◌≢◌, ◌≤◌, ◌⊎◌, IfOk, Some, is_ok, if◌then◌else◌};
 ghost use Rattle.std.specs.Prelude.{option_map, string_bytes};
-ghost use Rattle.cli_outside.specs.Outside.{Rose, with_more, StopsWithin};
+ghost use Rattle.exo_cli.specs.Outside.Outside.{Rose, with_more, StopsWithin};
 ghost use Rattle.exo_cli.specs.Answer.{answer_of, status_of, for_out, for_err};
 ghost use Rattle.exo_cli.specs.Replies.{plain};
 ghost use Rattle.compile_stages.specs.Stopping.{stage};
 
+use crate::outside::{Failed, Sink, write_all};
 use crate::status::Status;
-use cli_outside::{Failed, Sink, write_all};
 use compile_stages::Stop;
 use std::alloc::{AllocError, Global};
 

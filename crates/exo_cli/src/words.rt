@@ -5,7 +5,7 @@ ghost use Rattle.exo_cli.specs.Words as plainly;
 ghost use Rattle.exo_cli.specs.Words.{command_of, is_operand, short_of, texts};
 ghost use Rattle.exo_cli.specs.Asked.{plain};
 
-use generated_texts::number_of;
+use compile_stages::samples::number_of;
 
 /// What the program is asked to do; its operands are names of files, the last of `show` that of a
 /// version, and that of `gen` a number.

@@ -1,16 +1,16 @@
 // The order of the work: the words, the files, what their texts give, and then what is written.
 ghost use Rattle.std.specs.Prelude.{◌≡◌, ◌≤◌, ℕ, IfOk, IfSome, List, MatchResult, Option, length};
 ghost use Rattle.exo_cli.specs.Headline.{KeepsItsPromise};
-ghost use Rattle.cli_outside.specs.Outside.{Folder, HasBytes};
+ghost use Rattle.exo_cli.specs.Outside.Outside.{Folder, HasBytes};
 ghost use Rattle.exo_cli.specs.Words.{Compile, Check, Show, Gen, texts};
 ghost use Rattle.exo_cli.specs.Replies.{plain};
 ghost use Rattle.exo_cli.specs.Work.{Ends, EndsAt, IsAnswer, IsAnswerTo, file_limit};
 
 use crate::messages;
+use crate::outside::{FileFault, Files, Sink};
 use crate::reply::{Reply, replied};
 use crate::status::Status;
 use crate::words::{Command, read_command};
-use cli_outside::{FileFault, Files, Sink};
 use compile_stages::laws::{
     checked_is_counted, compiled_is_promised, displayed_is_promised, generated_is_promised,
 };

@@ -17,3 +17,4 @@ pub use access::{Access, AccessCoord, Mode};
 pub use guards::Guard;
 pub use passed::argument;
 pub use piece::accesses;
+pub use plain::{is_plain, is_plain_condition};

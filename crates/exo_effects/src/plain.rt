@@ -7,7 +7,7 @@ ghost use Rattle.meaning_laws.specs.Substitute.{is_plain};
 use exo_tree::{Cond, Ctrl};
 
 /// Whether no field and no stride stands in an expression.
-fn is_plain(e: &Ctrl) -> bool
+pub fn is_plain(e: &Ctrl) -> bool
     ensures { result ≡ is_plain (control e.now) }
 {
     match e {
@@ -19,7 +19,7 @@ fn is_plain(e: &Ctrl) -> bool
 }
 
 /// Whether no field and no stride stands in a condition.
-pub(crate) fn is_plain_condition(c: &Cond) -> bool
+pub fn is_plain_condition(c: &Cond) -> bool
     ensures { result ≡ is_plain_condition (condition c.now) }
 {
     match c {

@@ -5,3 +5,4 @@ pub mod Arguments
 pub mod Callees
 pub mod Procedures
 pub mod Writes
+pub mod OfCalls

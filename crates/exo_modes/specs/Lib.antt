@@ -2,3 +2,5 @@ pub mod Aliases
 pub mod Marks
 pub mod Written
 pub mod Seen
+pub mod Sorts
+pub mod Calls

@@ -1,8 +1,11 @@
 //! The buffers of names.
 ghost use Rattle.std.specs.Prelude.{◌≡◌, take, length, OnOk};
+ghost use Rattle.exo_tree.specs.PlainArgument.{argument};
+ghost use Rattle.exo_meaning.specs.Run.{is_root};
 ghost use Rattle.exo_meaning.specs.Scene.{updated};
 ghost use Rattle.exo_modes.specs.Aliases.{roots_in};
 
+use exo_tree::Arg;
 use std::alloc::AllocError;
 
 /// A name and the buffer that it stands for.
@@ -23,6 +26,17 @@ pub fn root(aliases: &[Alias], name: u32) -> u32
         }
     }
     root
+}
+
+/// Whether an argument is buffer `y` or part of it.
+pub fn is_part(aliases: &[Alias], y: u32, a: &Arg) -> bool
+    ensures { result ≡ is_root (roots_in aliases.now) y (argument a.now) }
+{
+    match a {
+        Arg::Whole(x) => y == root(aliases, x.0),
+        Arg::Window(x, _) => y == root(aliases, x.0),
+        _ => false,
+    }
 }
 
 /// Lets a name stand for a buffer from now on.

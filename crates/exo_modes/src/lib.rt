@@ -1,14 +1,20 @@
-//! Which buffers a procedure reads, writes or reduces: directly, through a view, or through a call.
+//! What sort of thing a name stands for; which buffers a procedure reads, writes or reduces:
+//! directly, through a view, or through a call; and whom it calls.
 #![tactic(auto)]
 
 mod aliases;
+pub mod calls;
 mod mode;
 mod row;
+mod sorts;
 mod table;
 mod walk;
 
-pub use aliases::{Alias, root, set_root};
+pub use aliases::{Alias, is_part, root, set_root};
 pub use mode::Modes;
 pub use row::Row;
+pub use sorts::{
+    Sort, has_cell, has_dimension, has_rank, is_dense, is_flag, is_number, param_sort,
+};
 pub use table::{ModeTable, modes};
 pub use walk::{Above, row_of};

@@ -10,13 +10,14 @@ use Rattle.text_phrases.specs.declared.Refusal.TheVariants.{Memory, Syntax, TooD
 use Rattle.text_phrases.proofs.Sequences.{Back, Step}
 use Rattle.text_phrases.proofs.Joints.{Joint}
 use Rattle.text_expressions.specs.Values.{name}
+use Rattle.text_expressions.specs.Starts.{StartsWithName, RefusesItem}
 use Rattle.text_expressions.specs.Expression.{Tree}
 use Rattle.text_lexer.specs.declared.token.Token.{Token}
 use Rattle.text_lexer.specs.declared.token.Token.TheVariants.{Name, Sign, Word}
 use Rattle.text_lexer.specs.declared.token.Sign.TheVariants.{OpenBracket, CloseBracket, Comma, Close, Colon}
 use Rattle.text_lexer.specs.declared.token.Word.TheVariants as w
 use Rattle.exo_reader.specs.Source.{TypeName, stride, named, Form, plain, strided, Parameter}
-use Rattle.exo_reader.specs.Parts.{dims, maybe_dims, type_name, FollowsMemory, maybe_memory, form, parameter, FewParameters, parameters, StartsWithName, RefusesParameter}
+use Rattle.exo_reader.specs.Parts.{dims, maybe_dims, type_name, FollowsMemory, maybe_memory, form, parameter, FewParameters, parameters}
 use Rattle.exo_reader.specs.Views.{plain_parameter}
 use Rattle.exo_reader.specs.declared.source.SourceParam.{SourceParam}
 use Rattle.exo_reader.proofs.Parts.{no_name, zero, dims_zero}
@@ -134,7 +135,7 @@ no_parameter tokens none = record {
 }
 
 -- a further parameter would be the 33rd
-pub many_parameters : (tokens rest after : List Token) (list : List SourceParam) (e : Refusal) → Enclosed_read parameter FewParameters plain_parameter tokens list rest → rest ≡ Sign Comma ∷ after → (first after ≡ Some (Sign Close) → ⊥) → 32 ≤ length list → RefusesParameter after e → Refuses parameters tokens e
+pub many_parameters : (tokens rest after : List Token) (list : List SourceParam) (e : Refusal) → Enclosed_read parameter FewParameters plain_parameter tokens list rest → rest ≡ Sign Comma ∷ after → (first after ≡ Some (Sign Close) → ⊥) → 32 ≤ length list → RefusesItem after e → Refuses parameters tokens e
 many_parameters tokens rest [] list (TooLong last) begun comma unclosed full refuses = absurd refuses.0
 many_parameters tokens rest (Name n ∷ after) list (TooLong last) begun comma unclosed full refuses =
     subst (λ (k : ℕ). Refuses parameters tokens (TooLong k)) (sym refuses.1)

@@ -5,8 +5,6 @@ use Rattle.text_phrases.specs.Limits.{Limits}
 use Rattle.text_phrases.specs.Phrase.{Phrase}
 use Rattle.text_phrases.specs.Sequence.{AllFit, spell_all, maybe}
 use Rattle.text_phrases.specs.Commas.{spell_more, commas}
-use Rattle.text_phrases.specs.declared.Refusal.{Refusal}
-use Rattle.text_phrases.specs.declared.Refusal.TheVariants.{TooLong, Syntax}
 use Rattle.text_expressions.specs.Values.{name}
 use Rattle.text_expressions.specs.Expression.{Tree, FollowsOperand, indices, most_depth}
 use Rattle.text_lexer.specs.declared.token.Token.{Token}
@@ -148,14 +146,3 @@ FewParameters more = length more < 32
 
 abbrev pub parameters : Phrase Token (List Parameter × Bool)
 parameters = enclosed parameter FewParameters
-
--- a name of any length stands first
-abbrev pub StartsWithName : List Token → Type 0
-StartsWithName (t.Name x ∷ more) = Unit {0}
-StartsWithName other = ⊥
-
--- why no further parameter stands there
-abbrev pub RefusesParameter : List Token → Refusal → Type 0
-RefusesParameter tokens (TooLong last) = StartsWithName tokens × (last ≡ length tokens)
-RefusesParameter tokens (Syntax last) = (StartsWithName tokens → ⊥) × (last ≡ length tokens)
-RefusesParameter tokens other = ⊥

@@ -1,17 +1,17 @@
 //! Parameters.
 
-ghost use Rattle.std.specs.Prelude.{◌≡◌, ◌∷◌, List, map, length, IsTrue, ◌↔◌};
+ghost use Rattle.std.specs.Prelude.{◌≡◌, ◌∷◌, List, map, length};
 ghost use Rattle.text_phrases.specs.Phrase.{Taken, Refused};
 ghost use Rattle.text_phrases.specs.Answers.{Reads, Refuses};
-ghost use Rattle.exo_reader.specs.Parts.{form, parameter, parameters, StartsWithName, RefusesParameter};
+ghost use Rattle.exo_reader.specs.Parts.{form, parameter, parameters};
 ghost use Rattle.exo_reader.specs.Views.{plain_form, plain_parameter, plain_parameters};
 ghost use Rattle.text_lexer.specs.declared.token.Token.{Token};
 
 use crate::part::{read_dims, read_kind, read_memory, read_name_and, read_optional_dims};
 use crate::source::{SourceParam, SourceParams, SourceType};
 use std::alloc::Global;
-use text_expressions::front::{Fixed, behind, expect_all, stands_first};
-use text_lexer::token::{Sign, Token, next};
+use text_expressions::front::{Fixed, behind, expect_all, refuse_item, stands_first};
+use text_lexer::token::{Sign, Token};
 use text_phrases::Refusal;
 
 /// The most parameters.
@@ -49,27 +49,6 @@ pub fn read_parameter(alloc: Global, tokens: &[Token]) -> Result<(SourceParam, &
     Ok((SourceParam { name, form, memory }, rest))
 }
 
-/// Whether a name of any length stands first.
-pub fn name_stands_first(tokens: &[Token]) -> bool
-    ensures { IsTrue result ↔ StartsWithName tokens.now }
-{
-    match next(tokens) {
-        Some((Token::Name(_), _)) => true,
-        _ => false,
-    }
-}
-
-/// Why no parameter stands there, where there are as many as may be.
-fn refuse_parameter(tokens: &[Token]) -> Refusal
-    ensures { RefusesParameter tokens.now result }
-{
-    if name_stands_first(tokens) {
-        Refusal::TooLong(tokens.len())
-    } else {
-        Refusal::Syntax(tokens.len())
-    }
-}
-
 /// The parameters before a closing parenthesis, at most 32.
 pub fn read_parameters(alloc: Global, tokens: &[Token]) -> Result<(SourceParams, &[Token]), Refusal>
     ensures { Reads parameters tokens.now (λ x. plain_parameters x.0) (λ x. x.1.now) result }
@@ -94,7 +73,7 @@ pub fn read_parameters(alloc: Global, tokens: &[Token]) -> Result<(SourceParams,
             return Ok((params, after));
         }
         if items.len() >= PARAMETERS {
-            return Err(refuse_parameter(after));
+            return Err(refuse_item(after));
         }
         let (param, found) = read_parameter(alloc, after)?;
         items.push(param)?;

@@ -1,3 +1,4 @@
+pub mod Named
 pub mod Tree
 pub mod Cells
 pub mod Context

@@ -1,5 +1,5 @@
 -- How many statements a tree has at every depth: what recursions over trees count down by.
-use Rattle.std.specs.Prelude.{ℕ, ◌+◌, List}
+use Rattle.std.specs.Prelude.{ℕ, ◌+◌, ◌-◌, ◌^◌, min, List}
 use Rattle.exo_tree.specs.Tree.{Statement, Assign, Reduce, Config, Pass, If, For, Alloc, View, Call, Block, end, next, block}
 
 abbrev mutual
@@ -21,3 +21,7 @@ abbrev mutual
 -- the same of a list of statements
 abbrev pub nodes_of : List Statement → ℕ
 nodes_of ss = nodes_in (block ss)
+
+-- the greatest number of 64 bits in the place of a greater one: no text has so many lines
+abbrev pub capped : ℕ → ℕ
+capped n = min n (2 ^ 64 - 1)

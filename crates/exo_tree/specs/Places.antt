@@ -1,5 +1,5 @@
 -- Places of statements: a path leads to a context with a hole and to the statements that stand there.
-use Rattle.std.specs.Prelude.{ℕ, zero, suc, Bool, true, false, ◌==◌, ◌&&◌, List, [], ◌∷◌, Option, Some, None, option_map, option_and_then}
+use Rattle.std.specs.Prelude.{ℕ, zero, suc, Bool, true, false, ◌==◌, ◌&&◌, List, [], ◌∷◌, ◌++◌, Option, Some, None, option_map, option_and_then}
 use Rattle.exo_tree.specs.Tree.{Statement, If, For, Block, end, next}
 use Rattle.exo_tree.specs.Context.{Context, Here, After, InLoop, InThen, InElse, fill}
 
@@ -14,6 +14,10 @@ pub record Step : Type 0 where
 
 abbrev pub Path : Type 0
 Path = List Step
+
+-- the path of a statement in a branch of the one at a path
+abbrev pub path_below : Path → Branch → ℕ → Path
+path_below path branch n = path ++ record { branch = branch; index = n } ∷ []
 
 abbrev pub same_branch : Branch → Branch → Bool
 same_branch Main Main = true

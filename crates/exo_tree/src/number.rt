@@ -1,4 +1,7 @@
 //! The numbers by which trees speak of binders and of a unit's tables.
+ghost use Rattle.std.specs.Prelude.{◌≡◌};
+ghost use Rattle.exo_tree.specs.Named.{cell_word};
+ghost use Rattle.exo_tree.specs.PlainBinder.{cell_type};
 
 /// A binder of a procedure.
 #[derive(Clone, Copy, PartialEq, Eq)]
@@ -23,6 +26,20 @@ pub enum Cell {
     I16,
     I32,
     Ui8,
+}
+
+impl Cell {
+    /// The word of the type in unit texts, and in the names of C's structs.
+    pub fn word(self) -> &'static str
+        ensures { result.now ≡ cell_word (cell_type self) }
+    {
+        match self {
+            Cell::I8 => "i8",
+            Cell::I16 => "i16",
+            Cell::I32 => "i32",
+            Cell::Ui8 => "ui8",
+        }
+    }
 }
 
 /// The kind of a control value.

@@ -1,9 +1,9 @@
 //! Paths to statements.
 ghost use Rattle.std.specs.Prelude.{◌≡◌, [], ◌∷◌, ◌++◌, ◌<◌, ◌≤◌, length, map, option_map};
-ghost use Rattle.std.specs.Prelude.{option_and_then, slice_get};
+ghost use Rattle.std.specs.Prelude.{option_and_then};
 ghost use Rattle.std.specs.Option.{option_copied};
 ghost use Rattle.exo_tree.specs.Tree.{block};
-ghost use Rattle.exo_tree.specs.Places.{statement_at, opened_in, first_of};
+ghost use Rattle.exo_tree.specs.Places.{statement_at, opened_in, first_of, path_below};
 ghost use Rattle.exo_tree.specs.Branches.{branch_of};
 ghost use Rattle.exo_tree.specs.PlainPlace.{branch_taken, step_taken};
 ghost use Rattle.exo_tree.specs.PlainStatement.{statement};
@@ -67,6 +67,18 @@ impl Path {
         }
     }
 
+    /// The path of these steps.
+    pub fn from_steps(steps: &[Step]) -> Path
+        requires { length steps.now ≤ 32 }
+        ensures { result ≡ map step_taken steps.now }
+    {
+        let mut path = Path::new();
+        for step in steps {
+            path.push(*step);
+        }
+        path
+    }
+
     /// One step more.
     pub fn push(&mut self, step: Step)
         requires { length self.old < 32 }
@@ -92,11 +104,17 @@ impl Path {
     pub fn duplicate(&self) -> Path
         ensures { result ≡ self.now }
     {
-        let mut copied = Path::new();
-        for step in self.as_slice() {
-            copied.push(*step);
-        }
-        copied
+        Path::from_steps(self.as_slice())
+    }
+
+    /// The path of a statement in a branch of the statement at this one.
+    pub fn below(&self, branch: Branch, index: u32) -> Path
+        requires { length self.now < 32 }
+        ensures { result ≡ path_below self.now (branch_taken branch) index }
+    {
+        let mut inner = self.duplicate();
+        inner.push(Step { branch, index });
+        inner
     }
 }
 

@@ -1,10 +1,11 @@
 //! Units: all that a unit text declares, and the versions made by steps.
 ghost use Rattle.std.specs.Prelude.{◌≡◌, [], ◌∷◌, ◌++◌, length, map, OnOk, OnErr, slice_get, option_map};
 ghost use Rattle.std.specs.Option.{option_copied};
+ghost use Rattle.exo_tree.specs.Named.{name_of};
 ghost use Rattle.exo_tree.specs.PlainTables.{config_field, memory_kind};
 
 use crate::lines::Lines;
-use crate::number::{Cell, Kind};
+use crate::number::{Cell, Kind, ProcId};
 use crate::procedure::Procs;
 use crate::text::{Name, Text};
 use std::alloc::{AllocError, Global};
@@ -41,6 +42,18 @@ pub struct Unit {
     pub fields: Fields,
     pub memories: Memories,
     pub lines: Lines,
+}
+
+impl Unit {
+    /// The name of a procedure; empty where the unit has none of that number.
+    pub fn name_of(&self, k: ProcId) -> &str
+        ensures { result.now ≡ name_of (slice_get self.now.procs k.0) }
+    {
+        match self.procs.get(k.0 as usize) {
+            Some(p) => p.name.as_str(),
+            None => "",
+        }
+    }
 }
 
 /// The fields of a unit's configurations.

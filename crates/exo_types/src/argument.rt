@@ -9,20 +9,20 @@ ghost use Rattle.exo_reader.specs.Views.{plain_coordinate, plain_argument};
 ghost use Rattle.rules_names.specs.Faults.{charged};
 ghost use Rattle.rules_names.specs.declared.fault.Fault.{Fault};
 ghost use Rattle.rules_names.specs.Names.{named_in, sort_of};
-ghost use Rattle.rules_names.specs.Tests.{sort_seen, reads, most_tokens};
+ghost use Rattle.rules_names.specs.Tests.{reads, most_tokens};
 ghost use Rattle.rules_names.specs.ExpressionRules.{width, closed_width};
 ghost use Rattle.rules_names.specs.WindowRules.{coordinates_width, coordinates_of};
 ghost use Rattle.exo_modes.specs.Aliases.{roots_in};
+ghost use Rattle.exo_modes.specs.Sorts.{sort_seen};
 ghost use Rattle.exo_types.specs.ArgumentRules as rules;
 
-use exo_modes::{Alias, root};
+use exo_modes::{Alias, Sort, has_cell, is_dense, root};
 use exo_reader::source::{SourceArg, SourceCoord};
 use exo_tree::{Arg, Cell, Coord, Coords, Kind, ParamKind};
 use rules_names::control::{test_condition, test_control, test_controls, test_wrong_form};
 use rules_names::error::TypeKind;
 use rules_names::fault::Charge;
 use rules_names::resolved::{NO_ID, condition_of, control_of, coordinates_of, id_in};
-use rules_names::scope::Sort;
 use rules_names::tested::{
     Names, PLAINLY, Reads, Tested, WITH_BOTH, name_charge, rank_charge, suits,
 };
@@ -43,26 +43,6 @@ pub fn spans(coords: &[SourceCoord]) -> usize
         }
     }
     count
-}
-
-/// Whether it is a buffer or view of that cell type.
-fn has_cell(cell: Cell, sort: Option<Sort>) -> bool
-    ensures { result ≡ units.has_cell (cell_type cell) (sort_seen sort) }
-{
-    match sort {
-        Some(Sort::Buffer(known, _, _)) => known == cell,
-        _ => false,
-    }
-}
-
-/// Whether it is a whole dense tensor.
-fn is_dense(sort: Option<Sort>) -> bool
-    ensures { result ≡ units.is_dense (sort_seen sort) }
-{
-    match sort {
-        Some(Sort::Buffer(_, _, dense)) => dense,
-        _ => false,
-    }
 }
 
 /// Whether a tensor of that cell type and rank takes a whole buffer.

@@ -2,11 +2,9 @@
 ghost use Rattle.std.specs.Prelude.{◌≡◌, ◌+◌, ◌≤◌, ◌<◌, [], List, map, length, IfOk, MatchResult};
 ghost use Rattle.exo_tree.specs.Tree.{ConfigField};
 ghost use Rattle.exo_tree.specs.PlainParam.{parameter_kind};
-ghost use Rattle.exo_meaning.specs.Units as units;
 ghost use Rattle.text_expressions.specs.Views.{tree_of};
 ghost use Rattle.exo_reader.specs.Views.{plain_kind, plain_form, plain_parameter, plain_definition};
 ghost use Rattle.rules_names.specs.Faults.{charged};
-ghost use Rattle.rules_names.specs.Tables.{sort_meant};
 ghost use Rattle.rules_names.specs.Tests.{most_tokens};
 ghost use Rattle.rules_names.specs.ExpressionRules.{width};
 ghost use Rattle.exo_types.specs.TypeRules.{memory_width, kind_named};
@@ -22,6 +20,7 @@ use crate::part::{binder_charge, comma_width, end_of_memory, memory_charge, memo
 use crate::refusal::{Refusal, keep};
 use crate::statement::add_statements;
 use crate::types::{cell_charge, cell_of, kind_named};
+use exo_modes::param_sort;
 use exo_reader::source::{SourceDef, SourceKind, SourceParam, SourceType};
 use exo_tree::{
     Block, Conds, Indices, Name, Param, ParamKind, Params, Proc, StatementLines, Text as Template,
@@ -30,7 +29,7 @@ use rules_names::control::{test_condition, test_controls};
 use rules_names::error::TypeKind;
 use rules_names::fault::Charge;
 use rules_names::resolved::{condition_of, indices_of};
-use rules_names::scope::{Scope, Sort};
+use rules_names::scope::Scope;
 use rules_names::table::NameTable;
 use rules_names::tested::{Names, PLAINLY, WITH_BOTH};
 use std::alloc::{AllocError, Global};
@@ -145,17 +144,6 @@ fn form_of(
             let extents = indices_of(alloc, names, dims)?;
             Ok(ParamKind::Window(cell_of(kind), extents, memory_of(memories, memory)))
         }
-    }
-}
-
-/// What a parameter's name stands for.
-fn param_sort(kind: &ParamKind) -> Sort
-    ensures { sort_meant result ≡ units.param_sort (parameter_kind kind.now) }
-{
-    match kind {
-        ParamKind::Ctrl(kind) => Sort::Control(*kind),
-        ParamKind::Tensor(cell, dims, _) => Sort::Buffer(*cell, dims.len(), true),
-        ParamKind::Window(cell, dims, _) => Sort::Buffer(*cell, dims.len(), false),
     }
 }
 

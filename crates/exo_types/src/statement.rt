@@ -11,8 +11,8 @@ ghost use Rattle.exo_reader.specs.Source.{branch, loop, allocate, call, configur
 ghost use Rattle.exo_reader.specs.Source as source;
 ghost use Rattle.exo_reader.specs.Views.{plain_coordinate, plain_argument, plain_kind, plain_statement};
 ghost use Rattle.rules_names.specs.Faults.{charged};
-ghost use Rattle.rules_names.specs.Tables.{sort_meant};
-ghost use Rattle.rules_names.specs.Tests.{sort_seen, most_tokens};
+ghost use Rattle.exo_modes.specs.Sorts.{sort_meant, sort_seen};
+ghost use Rattle.rules_names.specs.Tests.{most_tokens};
 ghost use Rattle.rules_names.specs.ExpressionRules.{width};
 ghost use Rattle.exo_types.specs.ArgumentRules.{dims_width};
 ghost use Rattle.exo_types.specs.StatementRules.{statement_width, block_width, else_width};
@@ -27,6 +27,7 @@ use crate::part::{
 };
 use crate::refusal::{Refusal, keep, unknown_name};
 use crate::types::{cell_charge, cell_of};
+use exo_modes::Sort;
 use exo_reader::source::{SourceArgs, SourceCoord, SourceKind, SourceStmt};
 use exo_tree::{Binder, Block, Cell, DataExpr, Id, Indices, Kind, ProcId, Stmt};
 use rules_names::control::{test_condition, test_control};
@@ -34,7 +35,7 @@ use rules_names::fault::Charge;
 use rules_names::resolved::{
     boxed_condition, control_of, coordinates_of, data_of, id_in, indices_of,
 };
-use rules_names::scope::{Scope, Sort};
+use rules_names::scope::Scope;
 use rules_names::tested::{Names, PLAINLY, WITH_FIELDS, WITH_STRIDES, is_buffer};
 use rules_names::window::test_window;
 use std::alloc::AllocError;

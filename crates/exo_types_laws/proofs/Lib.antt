@@ -16,3 +16,4 @@ mod Lexed
 mod Units
 pub mod OfStrings
 pub mod OfInstances
+pub mod OfShown

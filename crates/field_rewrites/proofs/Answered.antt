@@ -9,7 +9,7 @@ use Rattle.config_laws.specs.WriteConfig.{gap_at}
 use Rattle.config_laws.specs.DeleteConfig.{write_piece, field_of}
 use Rattle.cursor_forward.specs.Causes.{WrongShape}
 use Rattle.step_rules.specs.Rule.{Got, Not, Target}
-use Rattle.field_laws.specs.FieldRules.{of_tried, of_piece, known_cause}
+use Rattle.call_laws.specs.Fields.FieldRules.{of_tried, of_piece, known_cause}
 
 -- ---- write_config
 

@@ -6,7 +6,7 @@ use Rattle.meaning_laws.proofs.Parts.{some_injective}
 use Rattle.config_laws.specs.BindConfig.{Bound, bound_piece, bound_call, number_of, write_and_call}
 use Rattle.cursor_forward.specs.Causes.{WrongShape}
 use Rattle.step_rules.specs.Rule.{Got, Not}
-use Rattle.field_laws.specs.FieldRules.{of_tried, of_piece}
+use Rattle.call_laws.specs.Fields.FieldRules.{of_tried, of_piece}
 use Rattle.field_rewrites.specs.PlainCall.{call_of}
 
 module _ (ps : List Procedure) (x : List ℕ) (f : ℕ) where

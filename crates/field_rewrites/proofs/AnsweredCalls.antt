@@ -11,8 +11,8 @@ use Rattle.cursor_forward.specs.Causes.{WrongShape, NotDescendant}
 use Rattle.cursor_forward.specs.Cursors.{After}
 use Rattle.step_rules.specs.Rule.{Got, Not, Target}
 use Rattle.step_driver.specs.Spots.{Exit}
-use Rattle.field_laws.specs.FieldRules.{of_tried, of_piece, known_fields, are_fields}
-use Rattle.field_laws.proofs.Version.{version_fields_there}
+use Rattle.call_laws.specs.Fields.FieldRules.{of_tried, of_piece, known_fields, are_fields}
+use Rattle.call_laws.proofs.OfFields.Version.{version_fields_there}
 use Rattle.field_rewrites.specs.PlainCall.{call_of}
 
 abbrev exit : List ℕ → Path → Exit

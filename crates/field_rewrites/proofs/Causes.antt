@@ -10,7 +10,7 @@ use Rattle.exo_tree.specs.Places.{Opened}
 use Rattle.config_laws.specs.FieldRule as config
 use Rattle.config_laws.specs.FieldRule.{is_live, any_live, refused_if}
 use Rattle.cursor_forward.specs.Causes.{Cause, ConfigLive}
-use Rattle.field_laws.specs.FieldRules.{of_cause}
+use Rattle.call_laws.specs.Fields.FieldRules.{of_cause}
 
 abbrev cause_by : Bool → Bool → Option Cause
 cause_by known live =

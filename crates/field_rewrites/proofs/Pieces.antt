@@ -8,7 +8,7 @@ use Rattle.exo_tree.specs.Places.{Path, Opened, opened, statement_at, first_of}
 use Rattle.meaning_laws.proofs.Parts.{some_injective}
 use Rattle.place_laws.specs.Scope.SamePlace.{start_of}
 use Rattle.place_laws.proofs.OfScope.SamePlace.{same_place, first_place}
-use Rattle.made_trees.specs.Passes.{is_alone}
+use Rattle.tree_edits.specs.Made.Passes.{is_alone}
 use Rattle.config_laws.specs.FieldRule as config
 use Rattle.config_laws.specs.FieldRule.{further, is_live}
 use Rattle.config_laws.specs.DeleteConfig.{previous, behind_or_before, where_it_was}

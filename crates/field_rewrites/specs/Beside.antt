@@ -16,7 +16,7 @@ use Rattle.step_driver.specs.declared.target.Target.{Target}
 use Rattle.step_driver.specs.declared.target.Piece.{Piece}
 use Rattle.step_driver.specs.PlainTarget.{target, plain_piece}
 use Rattle.step_driver.specs.Spots.{Exit, spot_at}
-use Rattle.field_laws.specs.FieldRules.{of_side, known_cause, known_fields}
+use Rattle.call_laws.specs.Fields.FieldRules.{of_side, known_cause, known_fields}
 
 abbrev pub opening : Target → Piece → Opened
 opening on piece = (spot_at (target on) (plain_piece piece)).opened

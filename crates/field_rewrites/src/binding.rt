@@ -2,9 +2,9 @@
 ghost use Rattle.std.specs.Prelude.{◌≡◌, IfOk};
 ghost use Rattle.exo_tree.specs.Tree.{block};
 ghost use Rattle.exo_tree.specs.PlainStatement.{statement};
-ghost use Rattle.field_laws.specs.FieldRules.{bind_rule};
+ghost use Rattle.call_laws.specs.Fields.FieldRules.{bind_rule};
 ghost use Rattle.field_rewrites.specs.PlainBound.{call_bound, bound_block};
-ghost use Rattle.field_laws.proofs.Rules.{bind_is_lawful, bind_is_carrying};
+ghost use Rattle.call_laws.proofs.OfFields.Rules.{bind_is_lawful, bind_is_carrying};
 
 use crate::arguments::with_field;
 use crate::bound::{BoundAt, bound_at};
@@ -13,11 +13,11 @@ use crate::liveness::unless_live_before;
 use crate::places::{first_at, statement_at};
 use cursor_forward::{Shifts, Side, StepError};
 use exo_tree::{Block, FieldId, Name, Path, Proc, Stmt};
-use made_trees::Fresh;
 use std::alloc::{AllocError, Global};
+use step_driver::needs::Need;
 use step_driver::{Exit, Operator, Piece, Target, Writing};
-use step_needs::Need;
 use step_targets::{alone_to, at_index, one_shift};
+use tree_edits::made::Fresh;
 
 /// The step that writes the argument for a parameter into a field before the call, and gives the
 /// call the field. `WrongShape` where no call stands there with such a control parameter, its

@@ -6,9 +6,9 @@ ghost use Rattle.exo_tree.specs.PlainStatement.{statement};
 ghost use Rattle.exo_tree.specs.PlainUnit.{program};
 ghost use Rattle.config_live.specs.Origins.{number};
 ghost use Rattle.config_live.specs.Tables.{IsLiveTable};
-ghost use Rattle.field_laws.specs.FieldRules.{version_rule};
+ghost use Rattle.call_laws.specs.Fields.FieldRules.{version_rule};
 ghost use Rattle.field_rewrites.specs.PlainCall.{fields_called};
-ghost use Rattle.field_laws.proofs.Version.{version_is_lawful, version_is_carrying};
+ghost use Rattle.call_laws.proofs.OfFields.Version.{version_is_lawful, version_is_carrying};
 
 use crate::calls::{CallAt, call_in};
 use crate::liveness::unless_one_is_live;
@@ -16,11 +16,11 @@ use crate::places::{first_at, statement_at};
 use config_live::{LiveTable, descends, differing};
 use cursor_forward::{Shifts, Side, StepError};
 use exo_tree::{Block, FieldId, Name, Path, Proc, ProcId, Stmt};
-use made_trees::Fresh;
 use std::alloc::{AllocError, Global};
+use step_driver::needs::Need;
 use step_driver::{Exit, Operator, Piece, Target, Writing};
-use step_needs::Need;
 use step_targets::{alone_to, at_index, one_shift};
+use tree_edits::made::Fresh;
 
 /// The step that calls a version of the unit. `WrongShape` where no call stands there;
 /// `NotDescendant` where the version was not made from what is called there; `ConfigLive` where a

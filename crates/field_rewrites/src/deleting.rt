@@ -4,19 +4,19 @@ ghost use Rattle.std.specs.Option.{option_copied};
 ghost use Rattle.exo_tree.specs.PlainStatement.{statement};
 ghost use Rattle.config_live.specs.Origins.{number};
 ghost use Rattle.config_laws.specs.DeleteConfig.{field_of};
-ghost use Rattle.field_laws.specs.FieldRules.{delete_rule};
+ghost use Rattle.call_laws.specs.Fields.FieldRules.{delete_rule};
 ghost use Rattle.field_rewrites.specs.Beside.{listed};
-ghost use Rattle.field_laws.proofs.Rules.{delete_is_lawful, delete_is_carrying};
+ghost use Rattle.call_laws.proofs.OfFields.Rules.{delete_is_lawful, delete_is_carrying};
 
 use crate::exits::{no_field, one_field};
 use crate::liveness::unless_live_behind;
 use crate::places::{first_at, statement_at, where_it_was};
 use cursor_forward::{Shifts, StepError};
 use exo_tree::{Block, FieldId, Name, Path, Proc, Stmt};
-use made_trees::Fresh;
 use std::alloc::{AllocError, Global};
+use step_driver::needs::Need;
 use step_driver::{Exit, Operator, Piece, Target, Writing};
-use step_needs::Need;
+use tree_edits::made::Fresh;
 
 /// The step that leaves out the write of a field. `WrongShape` where no such write stands there;
 /// `ConfigLive` where its field is live behind it.

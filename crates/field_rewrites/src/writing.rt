@@ -3,8 +3,8 @@ ghost use Rattle.std.specs.Prelude.{◌≡◌, IfOk};
 ghost use Rattle.config_laws.specs.FieldRule.{gap};
 ghost use Rattle.cursor_forward.specs.PlainCursor.{plain_side};
 ghost use Rattle.step_rules.specs.Lawful.{config_side};
-ghost use Rattle.field_laws.specs.FieldRules.{write_rule};
-ghost use Rattle.field_laws.proofs.Rules.{write_is_lawful, write_is_carrying};
+ghost use Rattle.call_laws.specs.Fields.FieldRules.{write_rule};
+ghost use Rattle.call_laws.proofs.OfFields.Rules.{write_is_lawful, write_is_carrying};
 ghost use Rattle.field_rewrites.specs.PlainWriting.{side_of, value_of};
 
 use crate::exits::one_field;
@@ -12,10 +12,10 @@ use crate::liveness::unless_live_behind;
 use crate::places::{further, statement_at};
 use cursor_forward::{Shifts, Side, StepError};
 use exo_tree::{Arg, Block, FieldId, Name, Path, Proc, Stmt};
-use made_trees::Fresh;
 use std::alloc::{AllocError, Global};
+use step_driver::needs::Need;
 use step_driver::{Exit, Operator, Piece, Target, Writing};
-use step_needs::Need;
+use tree_edits::made::Fresh;
 
 /// The step that puts the write of a field into the gap before or behind a statement. `WrongShape`
 /// where no statement stands there, or the value breaks a rule of such writes; `ConfigLive` where

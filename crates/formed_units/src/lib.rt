@@ -1,16 +1,17 @@
-//! Units from their texts, and searches in them, for programs that try what is asked of well-formed units.
+//! Units from their texts, and searches in them, for programs that try what is asked of
+//! well-formed units.
 #![tactic(auto)]
 
 ghost use Rattle.std.specs.Prelude.{◌≡◌, IfSome, option_map};
 ghost use Rattle.exo_tree.specs.PlainUnit.{program};
 ghost use Rattle.exo_meaning.specs.Units.{IsUnit};
-ghost use Rattle.cursor_patterns.specs.PlainPattern.{plain_pattern};
+ghost use Rattle.cursor_forward.specs.Search.PlainPattern.{plain_pattern};
 ghost use Rattle.cursor_forward.specs.Patterns.{find_of};
 ghost use Rattle.cursor_forward.specs.PlainCursor.{plain_cursor};
 
 use cursor_forward::laws::units_are_searchable;
+use cursor_forward::search::Pattern;
 use cursor_forward::{Cursor, find};
-use cursor_patterns::Pattern;
 use exo_reader::unit::read_unit;
 use exo_tree::{ProcId, Unit};
 use exo_types::laws::read_texts_are_placed;

@@ -22,7 +22,7 @@ use Rattle.meaning_laws.proofs.FreshCopies.{closed_copies_are_same}
 use Rattle.meaning_laws.proofs.Substitute.{plain_same}
 use Rattle.place_laws.specs.Scope.Roots.{own_roots_at}
 use Rattle.place_laws.specs.Scope.Unrolled.{HasNamesOf}
-use Rattle.made_trees.specs.Passes.{or_pass}
+use Rattle.tree_edits.specs.Made.Passes.{or_pass}
 use Rattle.cursor_forward.specs.Shifts.{stays}
 use Rattle.cursor_forward.specs.Forwards.{Carries, are_apart}
 use Rattle.place_laws.specs.Order.TurnsOfTwo.{Loop}

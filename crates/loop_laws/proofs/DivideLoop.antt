@@ -28,7 +28,7 @@ use Rattle.meaning_laws.proofs.Substitute.{and_parts}
 use Rattle.place_laws.specs.Scope.Roots.{own_roots_at}
 use Rattle.place_laws.specs.Scope.BranchesAtPlaces.{only_branch}
 use Rattle.place_laws.specs.Scope.UnrollLoop.{only_loop}
-use Rattle.made_trees.specs.Passes.{or_pass}
+use Rattle.tree_edits.specs.Made.Passes.{or_pass}
 use Rattle.cursor_forward.specs.Shifts.{at_index, alone, range}
 use Rattle.cursor_forward.specs.Forwards.{Carries, AreCarried, are_apart}
 use Rattle.place_laws.specs.Order.TurnsOfTwo.{Loop}

@@ -13,9 +13,10 @@ use Rattle.exo_meaning.proofs.Frame.{or_parts}
 use Rattle.meaning_laws.specs.Copies.{IsFree}
 use Rattle.meaning_laws.specs.Sound.{binds, on_way}
 use Rattle.meaning_laws.specs.Substitute.{is_plain}
-use Rattle.tree_rules.specs.declared.findings.Findings.{Findings}
-use Rattle.tree_rules.specs.Classes.{both, rule, use_of}
-use Rattle.tree_rules.specs.Findings.{found_in_control, found_in_divisor, scope_behind, with_view}
+use Rattle.tree_findings.specs.declared.findings.Findings.{Findings}
+use Rattle.tree_findings.specs.Classes.{both, rule, use_of}
+use Rattle.tree_findings.specs.Findings.{found_in_control, found_in_divisor, scope_behind}
+use Rattle.tree_findings.specs.Findings.{with_view}
 use Rattle.step_rules.specs.Lawful.{found_scope_at}
 use Rattle.step_rules.proofs.Formed.{HasShape, shape_parts}
 

@@ -26,8 +26,8 @@ use Rattle.affine_forms.specs.Forms.{is_affine}
 use Rattle.affine_places.specs.Agreement.{agree, agreement_fits}
 use Rattle.affine_places.specs.Readings.{extent_reading}
 use Rattle.affine_places.specs.Roots.{variables}
-use Rattle.made_trees.specs.Ids.{next_id}
-use Rattle.made_trees.specs.Passes.{or_pass}
+use Rattle.tree_edits.specs.Made.Ids.{next_id}
+use Rattle.tree_edits.specs.Made.Passes.{or_pass}
 use Rattle.check_laws.specs.Facts.Laws.{ComesToPlace}
 use Rattle.cursor_forward.specs.Causes.{WrongShape, Form, WideNumber}
 use Rattle.cursor_forward.specs.Shifts.{stays}

@@ -22,7 +22,7 @@ use Rattle.meaning_laws.proofs.Scoped.{control_open}
 use Rattle.meaning_laws.proofs.Substitute.{and_parts, plain_same}
 use Rattle.place_laws.specs.Scope.Roots.{own_roots_at}
 use Rattle.place_laws.specs.Scope.Unrolled.{HasNamesOf}
-use Rattle.made_trees.specs.Passes.{or_pass}
+use Rattle.tree_edits.specs.Made.Passes.{or_pass}
 use Rattle.cursor_forward.specs.Shifts.{stays}
 use Rattle.cursor_forward.specs.Forwards.{Loop as LoopKind, Joint, none, Carries, are_apart}
 use Rattle.place_laws.specs.Order.TurnsOfTwo.{Loop}

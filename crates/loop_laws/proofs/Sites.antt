@@ -34,10 +34,10 @@ use Rattle.place_laws.specs.Scope.Roots.{own_roots_at}
 use Rattle.place_laws.specs.Scope.UnrollLoop.{only_loop}
 use Rattle.place_laws.specs.Scope.Unrolled.{HasNamesOf}
 use Rattle.check_laws.specs.Facts.Laws.{ComesToPlace}
-use Rattle.tree_rules.specs.Classes.{both, rule, limit}
-use Rattle.tree_rules.specs.Findings.{found_in_binder, found_in_control, findings_of_control}
-use Rattle.tree_rules.specs.Findings.{findings_of_statement, findings_of_block}
-use Rattle.tree_rules.specs.Sizes.{is_small_control}
+use Rattle.tree_findings.specs.Classes.{both, rule, limit}
+use Rattle.tree_findings.specs.Findings.{found_in_binder, found_in_control, findings_of_control}
+use Rattle.tree_findings.specs.Findings.{findings_of_statement, findings_of_block}
+use Rattle.tree_findings.specs.Sizes.{is_small_control}
 use Rattle.place_laws.specs.Order.TurnsOfTwo.{Loop}
 use Rattle.step_rules.specs.Rule.{Got, Target, Piece, Spot, Need, Says}
 use Rattle.step_rules.specs.Lawful.{IsMet, around, old, world_of, IsSpot, AtHole, Site, IsFormedHere}

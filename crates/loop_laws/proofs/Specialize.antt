@@ -9,7 +9,7 @@ use Rattle.exo_tree.specs.Renaming.{fresh}
 use Rattle.exo_meaning.specs.Unseen.{in_block as mentions}
 use Rattle.place_laws.specs.Scope.BranchesAtPlaces.{specialized}
 use Rattle.place_laws.specs.Scope.Scopes.{top_binders}
-use Rattle.made_trees.specs.Passes.{or_pass}
+use Rattle.tree_edits.specs.Made.Passes.{or_pass}
 use Rattle.cursor_forward.specs.Causes.{WrongShape}
 use Rattle.cursor_forward.specs.Forwards.{Carries}
 use Rattle.step_rules.specs.Rule.{Got, Not, Piece}

@@ -26,7 +26,7 @@ use Rattle.affine_forms.proofs.NormalForm.{normal_law}
 use Rattle.affine_places.specs.Readings.{extent_reading}
 use Rattle.affine_places.specs.Roots.{variables}
 use Rattle.match_laws.specs.Simplify.Simplified.{literal, values_in}
-use Rattle.made_trees.specs.Passes.{or_pass}
+use Rattle.tree_edits.specs.Made.Passes.{or_pass}
 use Rattle.cursor_forward.specs.Causes.{LimitPassed, Form, WideNumber}
 use Rattle.cursor_forward.specs.Shifts.{at_index}
 use Rattle.cursor_forward.specs.Forwards.{bones, Carries, are_apart}

@@ -9,7 +9,7 @@ use Rattle.meaning_laws.specs.Facts.{Holds}
 use Rattle.place_laws.specs.Scope.UnrollLoop.{only_loop}
 use Rattle.affine_forms.specs.Forms.{is_affine}
 use Rattle.affine_places.specs.Roots.{variables}
-use Rattle.made_trees.specs.Ids.{next_id}
+use Rattle.tree_edits.specs.Made.Ids.{next_id}
 use Rattle.cursor_forward.specs.Shifts.{stays}
 use Rattle.place_laws.specs.Order.TurnsOfTwo.{Loop}
 use Rattle.step_rules.specs.Rule.{Tried, Got, Target, Piece, Need, Says, Spot, Rule}

@@ -20,7 +20,7 @@ use Rattle.place_laws.specs.Order.TurnsOfTwo.{Loop}
 use Rattle.cursor_forward.specs.Causes.{Cause, WrongShape, LimitPassed, Form, WideNumber}
 use Rattle.cursor_forward.specs.PlainProposal.{cause_of, fault_of}
 use Rattle.cursor_forward.specs.declared.proposal.StepError.{StepError}
-use Rattle.tree_rules.specs.Seen.{capped_number}
+use Rattle.exo_tree.specs.Nodes.{capped}
 use Rattle.step_rules.specs.Rule.{Tried, Got, Not}
 use Rattle.step_rules.specs.Answer.{then_try}
 use Rattle.step_rules.specs.Shapes.{tried}
@@ -29,7 +29,8 @@ use Rattle.loop_laws.specs.Shapes.{loop_of}
 use Rattle.loop_laws.specs.UnrollLoop.{Unrolling, unrolling, with_affine_bounds, bound_fits, bound_form}
 use Rattle.loop_laws.specs.UnrollLoop.{constant_of, few_between, few_turns, turns_of, with_few}
 use Rattle.loop_laws.proofs.UnrollLoop.{same_got}
-use Rattle.loop_rewrites.specs.PlainTurns.{with_turns, bounds_are_affine}
+use Rattle.loop_laws.specs.Nest.Fuse.{bounds_are_affine}
+use Rattle.loop_rewrites.specs.PlainTurns.{with_turns}
 
 -- ---- constants
 
@@ -134,21 +135,21 @@ capped_beyond m h = omega (arith, h)
 
 -- a count that stops at the greatest number of 64 bits tells as well
 pub many_together : (first : ℤ) (n m : ℕ)
-    → nat_lt 65536 (n * capped_number m) ≡ nat_lt 65536 (length (range first n) * m)
+    → nat_lt 65536 (n * capped m) ≡ nat_lt 65536 (length (range first n) * m)
 many_together first n m =
     same n (nat_le m (2 ^ 64 - 1)) refl
     ∙ ap (λ k. nat_lt 65536 (k * m)) (sym (length_of_range first n))
   where
     same : (k : ℕ) (t : Bool) → nat_le m (2 ^ 64 - 1) ≡ t
-        → nat_lt 65536 (k * capped_number m) ≡ nat_lt 65536 (k * m)
+        → nat_lt 65536 (k * capped m) ≡ nat_lt 65536 (k * m)
     same zero t h =
-        let a : 0 * capped_number m ≡ 0 = omega arith in
+        let a : 0 * capped m ≡ 0 = omega arith in
         let b : 0 * m ≡ 0 = omega arith in
         ap (nat_lt 65536) (a ∙ sym b)
     same (suc k) true h = ap (λ x. nat_lt 65536 (suc k * x)) (within m h)
     same (suc k) false h =
         let low : 65536 < m = omega (arith, beyond m h) in
-        large k (capped_number m) (capped_beyond m (beyond m h)) ∙ sym (large k m low)
+        large k (capped m) (capped_beyond m (beyond m h)) ∙ sym (large k m low)
 
 -- ---- at a piece
 

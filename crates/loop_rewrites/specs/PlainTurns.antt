@@ -1,8 +1,6 @@
 -- The plain form of the turns of a loop.
-use Rattle.std.specs.Prelude.{ℤ, Bool, ◌&&◌, List}
+use Rattle.std.specs.Prelude.{ℤ, List}
 use Rattle.exo_meaning.specs.Run as run
-use Rattle.affine_forms.specs.Forms.{is_affine}
-use Rattle.affine_places.specs.Roots.{variables}
 use Rattle.place_laws.specs.Order.TurnsOfTwo.{Loop}
 use Rattle.step_rules.specs.Rule.{Tried, Got}
 use Rattle.step_rules.specs.Answer.{then_try}
@@ -16,6 +14,3 @@ plain_turns t = record { loop = plain_loop t.looping; turns = run.range t.first 
 -- a loop with the numbers of its turns, where they are found
 abbrev pub with_turns : Loop → Tried (List ℤ) → Tried Unrolling
 with_turns l tried = then_try tried (λ ns. Got (record { loop = l; turns = ns }))
-
-abbrev pub bounds_are_affine : Loop → Bool
-bounds_are_affine l = is_affine variables l.lo && is_affine variables l.hi

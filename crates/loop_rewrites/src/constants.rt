@@ -10,8 +10,9 @@ ghost use Rattle.step_driver.specs.PlainTarget.{target, plain_piece};
 ghost use Rattle.step_driver.specs.Spots.{spot_at};
 ghost use Rattle.loop_laws.specs.UnrollLoop as plain;
 ghost use Rattle.loop_laws.specs.UnrollLoop.{constant_of, unrolling};
+ghost use Rattle.loop_laws.specs.Nest.Fuse.{bounds_are_affine};
 ghost use Rattle.step_targets.specs.PlainLoop.{plain_loop};
-ghost use Rattle.loop_rewrites.specs.PlainTurns.{plain_turns, with_turns, bounds_are_affine};
+ghost use Rattle.loop_rewrites.specs.PlainTurns.{plain_turns, with_turns};
 
 use crate::turns::Turns;
 use affine_forms::{FormError, Linear, normal_form};

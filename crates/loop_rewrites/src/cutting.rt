@@ -13,11 +13,11 @@ ghost use Rattle.step_targets.proofs.OnKinds.{any_fits};
 
 use cursor_forward::Shifts;
 use exo_tree::{Block, Ctrl, Path};
-use made_trees::Fresh;
 use std::alloc::{AllocError, Global};
+use step_driver::needs::Need;
 use step_driver::stays;
-use step_needs::Need;
 use step_targets::{LoopAt, OnLoop, Plain, at_most};
+use tree_edits::made::Fresh;
 
 /// The step that cuts a loop in two: up to `e`, and a copy from there on. It owes that `e` is at
 /// least the lower bound, and at most the upper one. `WrongShape` where no loop stands there, or

@@ -19,13 +19,13 @@ use crate::numbers::{branch, quotient, remainder, rounded_up, turn_behind};
 use crate::zero::{from_zero, is_zero};
 use cursor_forward::{Shifts, StepError};
 use exo_tree::{Block, Cond, Ctrl, Id, Name, Path, subst};
-use made_trees::Fresh;
 use std::alloc::{AllocError, Global};
+use step_driver::needs::{Fact, Need};
 use step_driver::{Piece, Target};
-use step_needs::{Fact, Need};
 use step_targets::{
     LoopAt, OnLoop, Ruled, alone_to, one_shift, path_below, range_to, single_need, statement_count,
 };
+use tree_edits::made::Fresh;
 
 /// What becomes of the turns that fill no group: the last group is guarded, they have a loop of
 /// their own, or one that is guarded, or there are none.

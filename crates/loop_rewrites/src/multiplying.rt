@@ -13,11 +13,11 @@ use crate::pairs::{PairAt, pair_at};
 use crate::zero::from_zero;
 use cursor_forward::{Shifts, StepError};
 use exo_tree::{Block, Ctrl, Id, Name, Path, subst};
-use made_trees::Fresh;
 use std::alloc::{AllocError, Global};
+use step_driver::needs::Need;
 use step_driver::{Piece, Target, Writing};
-use step_needs::Need;
 use step_targets::{OnPiece, Ruled, alone_to, one_shift, path_below, range_to, statement_count};
+use tree_edits::made::Fresh;
 
 impl PairAt<'_> {
     /// The inner body at the turns of both loops that a turn of the one loop stands for.

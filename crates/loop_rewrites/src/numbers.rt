@@ -7,13 +7,7 @@ ghost use Rattle.place_laws.specs.Scope.BranchesAtPlaces.{only_branch};
 
 use exo_tree::{Block, Cond, Ctrl, Id, Stmt};
 use std::alloc::{AllocError, Global};
-
-/// A copy in a box.
-fn boxed(alloc: Global, e: &Ctrl) -> Result<Box<Ctrl>, AllocError>
-    ensures { IfOk result (λ b. control b.value ≡ control e.now) }
-{
-    Ok(Box::new(alloc, e.duplicate(alloc)?)?)
-}
+use tree_edits::made::boxed_copy;
 
 /// A sum.
 fn sum(alloc: Global, a: Box<Ctrl>, b: Ctrl) -> Result<Ctrl, AllocError>
@@ -27,9 +21,9 @@ pub(crate) fn sum_less(alloc: Global, a: &Ctrl, b: &Ctrl, c: &Ctrl) -> Result<Ct
     ensures { IfOk result (λ e. control e
         ≡ tree.Sub (tree.Add (control a.now) (control b.now)) (control c.now)) }
 {
-    let all = sum(alloc, boxed(alloc, a)?, b.duplicate(alloc)?)?;
+    let all = sum(alloc, boxed_copy(alloc, a)?, b.duplicate(alloc)?)?;
     let left = Box::new(alloc, all)?;
-    Ok(Ctrl::Sub(left, boxed(alloc, c)?))
+    Ok(Ctrl::Sub(left, boxed_copy(alloc, c)?))
 }
 
 /// The turn of that number behind so many groups.
@@ -48,21 +42,21 @@ pub(crate) fn product(alloc: Global, groups: &Ctrl, by: i64) -> Result<Ctrl, All
     ensures { IfOk result (λ e. control e ≡ tree.Mul (control groups.now) (tree.Lit by)) }
 {
     let right = Box::new(alloc, Ctrl::Lit(by))?;
-    Ok(Ctrl::Mul(boxed(alloc, groups)?, right))
+    Ok(Ctrl::Mul(boxed_copy(alloc, groups)?, right))
 }
 
 /// How many whole groups there are.
 pub(crate) fn quotient(alloc: Global, turns: &Ctrl, by: i64) -> Result<Ctrl, AllocError>
     ensures { IfOk result (λ e. control e ≡ tree.Div (control turns.now) by) }
 {
-    Ok(Ctrl::Div(boxed(alloc, turns)?, by))
+    Ok(Ctrl::Div(boxed_copy(alloc, turns)?, by))
 }
 
 /// How many turns there are behind the whole groups.
 pub(crate) fn remainder(alloc: Global, turns: &Ctrl, by: i64) -> Result<Ctrl, AllocError>
     ensures { IfOk result (λ e. control e ≡ tree.Mod (control turns.now) by) }
 {
-    Ok(Ctrl::Mod(boxed(alloc, turns)?, by))
+    Ok(Ctrl::Mod(boxed_copy(alloc, turns)?, by))
 }
 
 /// How many groups there are, the last one whole or not.
@@ -71,7 +65,7 @@ pub(crate) fn rounded_up(alloc: Global, turns: &Ctrl, by: i64) -> Result<Ctrl, A
     ensures { IfOk result (λ e. control e
         ≡ tree.Div (tree.Add (control turns.now) (tree.Lit (by -ℤ pos 1))) by) }
 {
-    let up = sum(alloc, boxed(alloc, turns)?, Ctrl::Lit(by - 1))?;
+    let up = sum(alloc, boxed_copy(alloc, turns)?, Ctrl::Lit(by - 1))?;
     Ok(Ctrl::Div(Box::new(alloc, up)?, by))
 }
 

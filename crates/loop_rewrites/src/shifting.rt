@@ -13,11 +13,11 @@ ghost use Rattle.step_targets.proofs.OnKinds.{any_fits};
 use crate::numbers::sum_less;
 use cursor_forward::Shifts;
 use exo_tree::{Block, Cond, Ctrl, Path, subst};
-use made_trees::Fresh;
 use std::alloc::{AllocError, Global};
+use step_driver::needs::{Fact, Need};
 use step_driver::stays;
-use step_needs::{Fact, Need};
 use step_targets::{LoopAt, OnLoop, Plain, single_need};
+use tree_edits::made::Fresh;
 
 /// The step that counts the turns of a loop from `e` on. It owes that `e` is not negative.
 /// `WrongShape` where no loop stands there, or where `e` can't be a bound; `OutOfScope` where a

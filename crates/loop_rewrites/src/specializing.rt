@@ -8,12 +8,12 @@ ghost use Rattle.loop_laws.proofs.Specialize.{specialize_is_lawful, specialize_i
 
 use cursor_forward::{Shifts, StepError};
 use exo_tree::{Block, Cond, Path, Stmt};
-use made_trees::Fresh;
 use std::alloc::{AllocError, Global};
+use step_driver::needs::Need;
 use step_driver::{Piece, Target, Writing};
-use step_needs::Need;
 use step_targets::{Left, OnPiece, Plain, all_moved, path_below};
-use tree_mentions::is_mentioned_after;
+use tree_edits::made::Fresh;
+use tree_uses::mentions::is_mentioned_after;
 
 /// The step that puts a condition round so many statements: where it holds they stand as they are,
 /// and where not a copy. `WrongShape` where they are not there, what follows uses a name that they

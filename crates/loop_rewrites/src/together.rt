@@ -6,8 +6,7 @@ ghost use Rattle.loop_laws.specs.UnrollLoop as plain;
 ghost use Rattle.loop_rewrites.specs.PlainTurns.{plain_turns};
 
 use crate::turns::Turns;
-use exo_tree::{Block, Stmt};
-use tree_rules::count_block;
+use exo_tree::{Block, Stmt, count_statements};
 
 /// Whether a statement leaves a name to those behind it.
 fn leaves_name(s: &Stmt) -> bool
@@ -36,7 +35,7 @@ impl Turns<'_> {
         ensures { result
             ≡ plain.are_too_many (plain_turns self.now).loop (plain_turns self.now).turns }
     {
-        let together = self.count as u128 * count_block(self.looping.body) as u128;
+        let together = self.count as u128 * count_statements(self.looping.body) as u128;
         together > 65536 && !leave_names(self.looping.body)
     }
 }

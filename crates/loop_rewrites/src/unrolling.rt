@@ -19,11 +19,11 @@ use crate::turns::Turns;
 use affine_forms::FormError;
 use cursor_forward::{Shifts, StepError};
 use exo_tree::{Block, Ctrl, Path, Stmt, subst};
-use made_trees::Fresh;
 use std::alloc::{AllocError, Global};
+use step_driver::needs::Need;
 use step_driver::{Piece, Target, Writing};
-use step_needs::Need;
 use step_targets::{OnPiece, Plain, all_moved, path_below};
+use tree_edits::made::Fresh;
 
 /// A number as an expression.
 #[tactic(auto, using(crate::proofs::Unrolled::literal_below, crate::proofs::Unrolled::literal_from))]

@@ -12,8 +12,8 @@ use Rattle.piece_modes.specs.Way.{around_of}
 use Rattle.place_laws.specs.Scope.Roots.{own_roots_at}
 use Rattle.step_driver.specs.Spots.{or_nothing}
 use Rattle.step_rules.specs.Rule.{Target}
-use Rattle.tree_rules.proofs.Callees.{Agree, all_agree}
-use Rattle.unify_laws.specs.Replace.Rule.{written_by, may_share}
+use Rattle.tree_findings.proofs.Callees.{Agree, all_agree}
+use Rattle.call_laws.specs.Replace.Rule.{written_by, may_share}
 
 written : (cs : List Callee) (fs : List Modes) (k : ℕ) → Agree cs fs
     → writing (modes_at fs k) ≡ written_by (slice_get cs k)

@@ -2,7 +2,7 @@
 use Rattle.std.proofs.Common.{◌≡◌, ℕ, zero, suc, ◌+◌, ◌≤◌, min, Bool, true, false, ◌||◌}
 use Rattle.std.proofs.Common.{List, [], ◌∷◌, Option, length, drop, refl, sym, ap, ap₂, ◌∙◌, arith}
 use Rattle.exo_tree.specs.Tree.{Argument, Statement, Block, end, next, block}
-use Rattle.unify_laws.specs.Replace.Rule.{hands_on_in, hands_wholes}
+use Rattle.call_laws.specs.Replace.Rule.{hands_on_in, hands_wholes}
 
 module _ (given : ℕ → Option Argument) where
   abbrev handed : List Statement → List Statement → Bool

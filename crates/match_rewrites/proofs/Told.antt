@@ -15,11 +15,11 @@ use Rattle.cursor_forward.specs.Causes as causes
 use Rattle.cursor_forward.specs.Causes.{Cause, WrongShape, SharedArgument, WideNumber, Form}
 use Rattle.cursor_forward.specs.PlainProposal.{fault_of}
 use Rattle.cursor_forward.specs.declared.proposal.StepError.{StepError}
-use Rattle.step_needs.specs.Outcomes.{RefusedBy, Tries}
+use Rattle.step_driver.specs.Needs.Outcomes.{RefusedBy, Tries}
 use Rattle.step_rules.specs.Rule.{Tried, Got, Not, Target}
-use Rattle.unify_laws.specs.Simplify.{reading_of, rooted}
-use Rattle.unify_laws.specs.Replace.Rule.{hands_wholes, given_in, may_share}
-use Rattle.unify_laws.specs.Replace.Rule.{param_name, told, told_there, said}
+use Rattle.call_laws.specs.Simplify.{reading_of, rooted}
+use Rattle.call_laws.specs.Replace.Rule.{hands_wholes, given_in, may_share}
+use Rattle.call_laws.specs.Replace.Rule.{param_name, told, told_there, said}
 
 pub without_extents : (p : Procedure) → has_extents p ≡ false → rooted p ≡ no_roots
 without_extents p h = ap (λ t. if t then roots_of p else no_roots) h

@@ -10,10 +10,10 @@ use Rattle.meaning_laws.specs.Scoped.{has_binder}
 use Rattle.cursor_forward.specs.Causes.{Cause, WrongShape}
 use Rattle.cursor_forward.specs.declared.proposal.StepError.{StepError}
 use Rattle.step_driver.specs.Spots.{or_nothing}
-use Rattle.step_needs.specs.Outcomes.{RefusedBy, Tries}
+use Rattle.step_driver.specs.Needs.Outcomes.{RefusedBy, Tries}
 use Rattle.step_rules.specs.Answer.{then_try, opened_or_wrong}
 use Rattle.step_rules.specs.Rule.{Tried, Got, Not, Target, Piece}
-use Rattle.unify_laws.specs.Replace.Rule.{is_used_after, said, replace_piece}
+use Rattle.call_laws.specs.Replace.Rule.{is_used_after, said, replace_piece}
 use Rattle.match_rewrites.specs.Unified.{unified}
 
 -- ---- names that are used behind a piece

@@ -5,7 +5,7 @@ use Rattle.exo_tree.specs.Places.{Path, opened}
 use Rattle.cursor_forward.specs.Causes.{WrongShape}
 use Rattle.step_rules.specs.Rule.{Tried, Not, Target}
 use Rattle.step_rules.specs.Answer.{then_try, opened_or_wrong}
-use Rattle.unify_laws.specs.Replace.Rule.{is_used_after, said}
+use Rattle.call_laws.specs.Replace.Rule.{is_used_after, said}
 
 -- of a call of procedure k in the place of n statements from a path on
 abbrev pub unified : ℕ → ℕ → Target → Path → Tried (List Argument)

@@ -2,12 +2,12 @@
 ghost use Rattle.std.specs.Prelude.{◌≡◌, option_map, IfOk};
 ghost use Rattle.exo_tree.specs.Places.{opened};
 ghost use Rattle.exo_tree.specs.PlainProcedure.{procedure};
-ghost use Rattle.unify_laws.specs.Replace.Rule.{is_used_after};
+ghost use Rattle.call_laws.specs.Replace.Rule.{is_used_after};
 
-use block_pairs::IdSet;
+use block_matches::pairs::IdSet;
 use std::alloc::{AllocError, Global};
 use step_driver::{Piece, Target};
-use tree_mentions::is_mentioned_after;
+use tree_uses::mentions::is_mentioned_after;
 
 /// Whether what a piece binds is used behind it; None exactly where the piece is not there.
 pub(crate) fn is_used_after(

@@ -8,8 +8,8 @@ ghost use Rattle.match_laws.specs.Matched as plain;
 ghost use Rattle.match_laws.specs.Matched.{Arguments};
 ghost use Rattle.match_laws.specs.Widths.{Said, match_is_short};
 ghost use Rattle.tree_uses.specs.Outcomes.{ComesIf};
-ghost use Rattle.unify_laws.specs.Simplify.{reading_of, rooted};
-ghost use Rattle.unify_laws.specs.Replace.Rule as rule;
+ghost use Rattle.call_laws.specs.Simplify.{reading_of, rooted};
+ghost use Rattle.call_laws.specs.Replace.Rule as rule;
 ghost use Rattle.step_driver.specs.Outcomes.{Tries};
 ghost use Rattle.step_driver.specs.PlainTarget.{target, plain_piece};
 ghost use Rattle.step_driver.specs.Spots.{spot_at};
@@ -19,14 +19,14 @@ ghost use Rattle.block_matches.specs.PlainMatched.{plain_matched};
 use crate::wholes::Handing;
 use affine_forms::{FormError, Reader};
 use affine_places::{AtEntry, Roots, has_extents};
+use block_matches::pairs::NameTable;
 use block_matches::{Matched, match_with};
-use block_pairs::NameTable;
 use cursor_forward::StepError;
 use exo_tree::{Args, Id, Name, Param, Proc, ProcId};
 use piece_modes::roots_at;
 use std::alloc::{AllocError, Global};
 use step_driver::{Piece, Target};
-use tree_rules::gives_apart;
+use tree_findings::gives_apart;
 
 /// The name of the parameter of that id; empty where there is none.
 fn param_name(alloc: Global, params: &[Param], x: Id) -> Result<Name, AllocError>
@@ -158,7 +158,7 @@ impl Matching<'_> {
     }
 
     /// The arguments of the call.
-    #[tactic(auto, using(crate::proofs::Told::without_extents, unify_laws::proofs::Simplify::rooted_is))]
+    #[tactic(auto, using(crate::proofs::Told::without_extents, call_laws::proofs::Simplify::rooted_is))]
     fn told(&self, alloc: Global) -> Result<Args, StepError>
         requires { HasTables self.now.on.now }
         ensures { Tries (λ as'. as')

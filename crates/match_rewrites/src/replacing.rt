@@ -3,19 +3,19 @@ ghost use Rattle.std.specs.Prelude.{refl};
 ghost use Rattle.step_driver.specs.Outcomes.{Tries};
 ghost use Rattle.step_driver.specs.PlainTarget.{target};
 ghost use Rattle.step_driver.specs.Tables.{HasTables};
-ghost use Rattle.unify_laws.specs.Replace.Rule.{replace_rule};
-ghost use Rattle.unify_laws.proofs.OfReplace.Replacing.{replace_is_lawful, replace_is_carrying};
+ghost use Rattle.call_laws.specs.Replace.Rule.{replace_rule};
+ghost use Rattle.call_laws.proofs.OfReplace.Replacing.{replace_is_lawful, replace_is_carrying};
 ghost use Rattle.match_rewrites.specs.Unified.{unified};
 
 use crate::behind::is_used_after;
 use crate::matching::said;
 use cursor_forward::{Shifts, StepError};
 use exo_tree::{Args, Block, Path, ProcId, Stmt};
-use made_trees::Fresh;
 use std::alloc::{AllocError, Global};
+use step_driver::needs::Need;
 use step_driver::{Piece, Target, Writing};
-use step_needs::Need;
 use step_targets::{OnPiece, Plain};
+use tree_edits::made::Fresh;
 
 /// The arguments that a call of a procedure of the unit has in the place of so many statements from
 /// a path on. `WrongShape` where they are not there, what they bind is used behind them, the unit

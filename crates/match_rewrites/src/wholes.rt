@@ -6,7 +6,7 @@ ghost use Rattle.exo_tree.specs.Tree.{block};
 ghost use Rattle.exo_tree.specs.PlainArgument.{argument};
 ghost use Rattle.exo_tree.specs.PlainParam.{parameter};
 ghost use Rattle.exo_tree.specs.PlainStatement.{statement};
-ghost use Rattle.unify_laws.specs.Replace.Rule as plain;
+ghost use Rattle.call_laws.specs.Replace.Rule as plain;
 
 use exo_tree::{Arg, Args, Block, Id, Param, Params, Stmt};
 

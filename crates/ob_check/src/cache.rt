@@ -37,7 +37,8 @@ pub struct Cache {
 }
 
 impl Cache {
-    ghost use Rattle.std.specs.Prelude.{◌≡◌, true, not, [], List, IsTrue, map, fold, IfOk, OnOk};
+    ghost use Rattle.std.specs.Prelude.{◌≡◌, ◌==◌, true, not, [], List, IsTrue, length, map, fold};
+    ghost use Rattle.std.specs.Prelude.{IfOk, OnOk};
     ghost use Rattle.affine_forms.specs.Affine.{Constraints};
     ghost use Rattle.affine_forms.specs.System.{plain_system};
     ghost use Rattle.ob_check.specs.Truth.{IsTrueOf, is_small};
@@ -57,7 +58,8 @@ impl Cache {
 
     /// Whether it keeps no verdict.
     pub fn is_empty(&self) -> bool
-        ensures { result ≡ true → held self.now ≡ [] }
+        ensures exact { result ≡ (length (held self.now) == 0) }
+        ensures none { result ≡ true → held self.now ≡ [] }
     {
         self.verdicts.is_empty()
     }

@@ -1,3 +1,4 @@
 pub mod Calls
 pub mod Ways
 pub mod Outside
+pub mod OfStrides

@@ -3,3 +3,4 @@ pub mod Touching
 pub mod Way
 pub mod PlainWay
 pub mod Own
+pub mod Strides

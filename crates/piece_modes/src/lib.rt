@@ -1,7 +1,9 @@
-//! How statements at a place touch the buffers that are there.
+//! How statements at a place touch the buffers that are there; which strides of its parameters a
+//! procedure looks at.
 #![tactic(auto)]
 
 mod own;
+pub mod strides;
 mod touches;
 mod way;
 

@@ -15,7 +15,7 @@ ghost use Rattle.piece_modes.specs.Touching.{call_touches, step_touches, block_t
 ghost use Rattle.piece_modes.specs.Touching.{callee_modes};
 ghost use Rattle.piece_modes.specs.PlainMode.{plain_mode};
 
-use exo_modes::{Alias, ModeTable, Modes, root, set_root};
+use exo_modes::{Alias, ModeTable, Modes, is_part, root, set_root};
 use exo_tree::{Arg, Args, Block, DataExpr, Param, ProcId, Stmt, Unit};
 use std::alloc::AllocError;
 
@@ -75,17 +75,6 @@ fn reads_from(aliases: &[Alias], y: u32, e: &DataExpr) -> bool
                 || (reads_from(aliases, y, b)
                     || (reads_from(aliases, y, c) || reads_from(aliases, y, d)))
         }
-    }
-}
-
-/// Whether an argument is a buffer or part of it.
-fn is_part(aliases: &[Alias], y: u32, a: &Arg) -> bool
-    ensures { result ≡ is_root (roots_in aliases.now) y (argument a.now) }
-{
-    match a {
-        Arg::Whole(x) => y == root(aliases, x.0),
-        Arg::Window(x, _) => y == root(aliases, x.0),
-        _ => false,
     }
 }
 

@@ -1,5 +1,5 @@
 pub mod Charges
-pub mod Scopes
+pub mod InScope
 pub mod Tables
 pub mod Seen
 pub mod Widths
@@ -9,3 +9,4 @@ pub mod Told
 pub mod Controls
 pub mod Kept
 pub mod Trees
+pub mod OfScopes

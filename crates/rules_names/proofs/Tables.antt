@@ -9,7 +9,7 @@ use Rattle.exo_tree.specs.declared.number.Kind.{Kind}
 use Rattle.exo_tree.specs.PlainBinder.{control_kind}
 use Rattle.rules_names.specs.Names.{field_from, number_from, name_number}
 use Rattle.rules_names.specs.Tables.{field_entry}
-use Rattle.rules_names.proofs.Scopes.{text_turned}
+use Rattle.rules_names.proofs.InScope.{text_turned}
 
 abbrev pub FieldEntry : Type 0
 FieldEntry = (Bor (List ℕ) × Bor (List ℕ)) × Kind

@@ -7,3 +7,4 @@ pub mod WindowRules
 pub mod Tests
 pub mod Laws
 pub mod Arguments
+pub mod Scopes

@@ -1,13 +1,11 @@
 -- What the test of an expression tells.
-use Rattle.std.specs.Prelude.{◌≡◌, ℕ, ◌+◌, Bool, false, List, Option, option_map}
+use Rattle.std.specs.Prelude.{◌≡◌, ℕ, ◌+◌, Bool, false, List}
 use Rattle.exo_meaning.specs.Units as units
 use Rattle.text_expressions.specs.Expression.{Tree}
 use Rattle.rules_names.specs.declared.fault.Fault.{Fault}
-use Rattle.rules_names.specs.declared.scope.Sort.{Sort}
 use Rattle.rules_names.specs.declared.tested.Tested.{Tested}
 use Rattle.rules_names.specs.declared.tested.Reads.{Reads}
 use Rattle.rules_names.specs.Faults.{charged}
-use Rattle.rules_names.specs.Tables.{sort_meant}
 use Rattle.rules_names.specs.ExpressionRules.{width, has_variables}
 
 -- the charge of these faults, the token behind the expression that begins at token n, and whether its form can be what is asked
@@ -24,10 +22,6 @@ pub record Varies (t : Tested) (e : Tree) : Type 0 where
 pub record Joined (t : Tested) (faults : List Fault) (variables : Bool) : Type 0 where
   pub charge : t.charge ≡ charged faults
   pub told : t.charge.hides ≡ false → t.variables ≡ variables
-
--- the sort of a name
-abbrev pub sort_seen : Option Sort → Option units.Sort
-sort_seen sort = option_map sort_meant sort
 
 -- what may be read at a place
 abbrev pub reads : Reads → units.Reads

@@ -19,10 +19,11 @@ use crate::error::TypeKind;
 use crate::fault::Charge;
 use crate::tested::{
     Names, Reads, Tested, affine_charge, all_of, any_of, dimension_charge, field_charge,
-    field_suits, is_arithmetic, is_buffer, is_divisor, is_flag, is_number, joins_conditions,
-    missing_field, name_charge, suits,
+    field_suits, is_arithmetic, is_buffer, is_divisor, joins_conditions, missing_field,
+    name_charge, suits,
 };
 use crate::width::end_of;
+use exo_modes::{is_flag, is_number};
 use text_expressions::source::{Operator, SourceExpr};
 use text_lexer::text::Text;
 

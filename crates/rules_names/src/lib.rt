@@ -1,4 +1,5 @@
-//! What the names of a text stand for, and which rules its expressions break.
+//! What the names of a text, or of a string at a place, stand for, and which rules expressions
+//! break.
 #![tactic(auto)]
 
 pub mod argument;
@@ -9,6 +10,7 @@ pub mod fault;
 pub mod laws;
 pub mod resolved;
 pub mod scope;
+pub mod scopes;
 pub mod table;
 pub mod tested;
 pub mod width;

@@ -1,21 +1,15 @@
 //! The names in scope.
 ghost use Rattle.std.specs.Prelude.{◌≡◌, None, [], ◌-◌, drop, length, OnOk, OnErr, option_map};
 ghost use Rattle.exo_meaning.specs.Units.{with_name};
+ghost use Rattle.exo_modes.specs.Sorts.{sort_meant};
 ghost use Rattle.rules_names.specs.Names.{named_in, sort_of};
-ghost use Rattle.rules_names.specs.Tables.{named, sort_meant};
+ghost use Rattle.rules_names.specs.Tables.{named};
 
-use exo_tree::{Cell, Id, Kind};
+use exo_modes::Sort;
+use exo_tree::Id;
 use indexmap::IndexMap;
 use std::alloc::{AllocError, Global};
 use std::marker::Model;
-
-/// What sort of thing a name stands for.
-#[derive(Clone, Copy)]
-pub enum Sort {
-    Control(Kind),
-    /// A buffer or view with its cell type and rank, and whether it is a whole dense tensor.
-    Buffer(Cell, usize, bool),
-}
 
 /// What a name stands for: its id and its sort.
 #[derive(Clone, Copy)]

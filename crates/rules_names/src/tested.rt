@@ -2,10 +2,10 @@
 ghost use Rattle.std.specs.Prelude.{◌≡◌, ◌&&◌, ◌||◌, Bool, option_map, Option};
 ghost use Rattle.text_lexer.specs.declared.token.Literal.TheVariants.{Value};
 ghost use Rattle.exo_meaning.specs.Units as units;
+ghost use Rattle.exo_modes.specs.Sorts.{sort_seen};
 ghost use Rattle.text_expressions.specs.Views.{tree_of};
 ghost use Rattle.rules_names.specs.Faults.{charged};
 ghost use Rattle.rules_names.specs.Tables.{found_field};
-ghost use Rattle.rules_names.specs.Tests.{sort_seen};
 ghost use Rattle.rules_names.specs.ExpressionRules.{is_buffer, is_arithmetic, joins_conditions};
 ghost use Rattle.rules_names.specs.ExpressionRules.{is_divisor, suits, name_faults, rank_faults};
 ghost use Rattle.rules_names.specs.ExpressionRules.{dimension_faults, field_suits, field_faults};
@@ -13,8 +13,9 @@ ghost use Rattle.rules_names.specs.ExpressionRules.{no_such_field, affine_faults
 
 use crate::error::TypeKind;
 use crate::fault::Charge;
-use crate::scope::{Scope, Sort};
+use crate::scope::Scope;
 use crate::table::FieldTable;
+use exo_modes::Sort;
 use exo_tree::{FieldId, Kind};
 use text_expressions::source::{Operator, SourceExpr};
 
@@ -77,26 +78,6 @@ pub fn is_buffer(sort: Option<Sort>) -> bool
 {
     match sort {
         Some(Sort::Buffer(_, _, _)) => true,
-        _ => false,
-    }
-}
-
-/// Whether it is a number: a size, an index or a stride.
-pub fn is_number(sort: Option<Sort>) -> bool
-    ensures { result ≡ units.is_number (sort_seen sort) }
-{
-    match sort {
-        Some(Sort::Control(kind)) => kind != Kind::Bool,
-        _ => false,
-    }
-}
-
-/// Whether it is a bool.
-pub fn is_flag(sort: Option<Sort>) -> bool
-    ensures { result ≡ units.is_flag (sort_seen sort) }
-{
-    match sort {
-        Some(Sort::Control(kind)) => kind == Kind::Bool,
         _ => false,
     }
 }

@@ -1,7 +1,7 @@
 -- Arguments that ask for no change, by the one that is none of its place.
 use Rattle.std.proofs.Common.{◌≡◌, ℕ, List, [], ◌∷◌, Some, None, map, sym, subst, ◌∙◌}
 use Rattle.text_expressions.specs.Expression.{Tree}
-use Rattle.cursor_patterns.specs.Patterns.{ExprPattern}
+use Rattle.cursor_forward.specs.Search.Patterns.{ExprPattern}
 use Rattle.schedule_text.specs.Tree as tree
 use Rattle.schedule_text.specs.Views.{plain_argument}
 use Rattle.schedule_text.specs.declared.source.ArgText.{ArgText}

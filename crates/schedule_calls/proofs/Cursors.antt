@@ -1,6 +1,6 @@
 -- Arguments that ask for cursors, and some that ask for none.
 use Rattle.std.proofs.Common.{◌≡◌, ℕ, List, [], map, sym, subst}
-use Rattle.cursor_patterns.specs.Patterns.{Pattern}
+use Rattle.cursor_forward.specs.Search.Patterns.{Pattern}
 use Rattle.schedule_text.specs.Tree as tree
 use Rattle.schedule_text.specs.Views.{plain_move}
 use Rattle.schedule_text.specs.declared.source.Move as source

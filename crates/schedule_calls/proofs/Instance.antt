@@ -6,8 +6,8 @@ use Rattle.text_expressions.specs.Expression.{Tree, number, truth, control}
 use Rattle.exo_reader.specs.Instance.{TextInstance as ReaderInstance, stops_at}
 use Rattle.exo_reader.specs.Strings.{line_tokens_of, line_places_of, window}
 use Rattle.exo_reader.specs.Texts.{TextsAreOne}
-use Rattle.cursor_patterns.specs.Patterns.{Loop, Read}
-use Rattle.schedule_patterns.specs.Instance.{TextInstance}
+use Rattle.cursor_forward.specs.Search.Patterns.{Loop, Read}
+use Rattle.schedule_text.specs.Patterns.Instance.{TextInstance}
 use Rattle.schedule_text.specs.Tree as tree
 use Rattle.schedule_text.specs.declared.source.Direction.TheVariants as way
 use Rattle.exo_tree.specs.Places.{Branch, Main, Else}

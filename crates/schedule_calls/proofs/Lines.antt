@@ -2,7 +2,7 @@
 use Rattle.std.proofs.Common.{◌≡◌, ℕ, List, ◌∷◌, Some, None, true, false, map, sym, ap, subst, ◌∙◌}
 use Rattle.std.specs.Prelude.{not}
 use Rattle.std.specs.Option.{is_some}
-use Rattle.cursor_patterns.specs.Patterns.{Pattern}
+use Rattle.cursor_forward.specs.Search.Patterns.{Pattern}
 use Rattle.schedule_text.specs.Tree as tree
 use Rattle.schedule_text.specs.Views.{plain_move}
 use Rattle.schedule_text.specs.declared.source.Move as source

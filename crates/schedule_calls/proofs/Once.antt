@@ -6,9 +6,9 @@ use Rattle.exo_reader.specs.Texts.{TextsAreOne}
 use Rattle.exo_reader.specs.Strings.{line_tokens_of, window}
 use Rattle.exo_reader.specs.Items.{joined}
 use Rattle.schedule_text.specs.Tree as tree
-use Rattle.schedule_patterns.specs.Grammar.{statement, meant, expression, form_meant}
-use Rattle.schedule_patterns.specs.Texts.{PatternsAreOne}
-use Rattle.cursor_patterns.specs.Patterns.{Pattern, ExprForm, ExprPattern}
+use Rattle.schedule_text.specs.Patterns.Grammar.{statement, meant, expression, form_meant}
+use Rattle.schedule_text.specs.Patterns.Texts.{PatternsAreOne}
+use Rattle.cursor_forward.specs.Search.Patterns.{Pattern, ExprForm, ExprPattern}
 use Rattle.schedule_calls.specs.Requests.{Asked, Found, Here, Tail, Division, Window}
 use Rattle.schedule_calls.specs.Requests.{Change, WithControl, WithWord, MultLoops, Specialize}
 use Rattle.schedule_calls.specs.Requests.{CommuteExpr, BindExpr, ExpandDim, StageMem}

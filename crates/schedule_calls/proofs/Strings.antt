@@ -10,10 +10,10 @@ use Rattle.exo_reader.specs.Items.{joined}
 use Rattle.exo_reader.specs.declared.unit.ReadError.{ReadError}
 use Rattle.exo_reader.specs.declared.unit.ReadKind.{ReadKind}
 use Rattle.exo_reader.specs.declared.unit.ReadKind.TheVariants as k
-use Rattle.cursor_patterns.specs.Patterns.{Pattern, ExprPattern}
-use Rattle.schedule_patterns.specs.Errors.{UnlessMemory}
-use Rattle.schedule_patterns.specs.Grammar.{statement, meant, expression, form_meant}
-use Rattle.schedule_patterns.specs.Texts.{IsPattern, IsPatternFault, PatternsAreOne}
+use Rattle.cursor_forward.specs.Search.Patterns.{Pattern, ExprPattern}
+use Rattle.schedule_text.specs.Patterns.Errors.{UnlessMemory}
+use Rattle.schedule_text.specs.Patterns.Grammar.{statement, meant, expression, form_meant}
+use Rattle.schedule_text.specs.Patterns.Texts.{IsPattern, IsPatternFault, PatternsAreOne}
 use Rattle.schedule_calls.specs.Readings.{IsPatternIn, IsExprPatternOf}
 use Rattle.schedule_calls.specs.Requests.{Window}
 use Rattle.schedule_calls.specs.Readings.{IsExpressionOf, IsControlOf, IsConditionOf}

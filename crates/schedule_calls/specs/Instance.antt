@@ -6,7 +6,7 @@ use Rattle.exo_tree.specs.Places.{Branch, Main, Else}
 use Rattle.text_lexer.specs.declared.token.Literal.TheVariants.{Value}
 use Rattle.text_expressions.specs.Expression.{number, truth, variable}
 use Rattle.exo_reader.specs.Source.{Coordinate, span}
-use Rattle.cursor_patterns.specs.Patterns.{Loop, Read}
+use Rattle.cursor_forward.specs.Search.Patterns.{Loop, Read}
 use Rattle.schedule_text.specs.Tree as tree
 use Rattle.schedule_text.specs.declared.source.Direction.TheVariants as way
 use Rattle.schedule_calls.specs.Requests.{Parent, Item, Asked, Under, Here}

@@ -3,9 +3,9 @@ use Rattle.std.specs.Prelude.{ℕ, List, ◌∷◌, map, option_map}
 use Rattle.exo_tree.specs.PlainPlace.{branch_taken}
 use Rattle.text_expressions.specs.Views.{tree_of}
 use Rattle.exo_reader.specs.Views.{plain_window}
-use Rattle.cursor_patterns.specs.Patterns as patterns
-use Rattle.cursor_patterns.specs.declared.pattern.Pattern.{Pattern}
-use Rattle.cursor_patterns.specs.PlainPattern.{plain_pattern, plain_expr_pattern}
+use Rattle.cursor_forward.specs.Search.Patterns as patterns
+use Rattle.cursor_forward.specs.declared.search.pattern.Pattern.{Pattern}
+use Rattle.cursor_forward.specs.Search.PlainPattern.{plain_pattern, plain_expr_pattern}
 use Rattle.schedule_text.specs.Views.{plain_move}
 use Rattle.schedule_text.specs.declared.source.Move as source
 use Rattle.schedule_calls.specs.Requests as plain

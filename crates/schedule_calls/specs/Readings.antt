@@ -15,10 +15,10 @@ use Rattle.rules_names.specs.Arguments.{is_coordinate_form}
 use Rattle.schedule_text.specs.Tree as tree
 use Rattle.schedule_text.specs.declared.source.Direction.{Direction}
 use Rattle.schedule_text.specs.declared.source.Direction.TheVariants as way
-use Rattle.schedule_patterns.specs.Grammar.{statement, meant, expression, form_meant}
-use Rattle.schedule_patterns.specs.Names.{name_fault}
-use Rattle.schedule_patterns.specs.Texts.{IsPattern}
-use Rattle.cursor_patterns.specs.Patterns.{Pattern, ExprPattern}
+use Rattle.schedule_text.specs.Patterns.Grammar.{statement, meant, expression, form_meant}
+use Rattle.schedule_text.specs.Patterns.Names.{name_fault}
+use Rattle.schedule_text.specs.Patterns.Texts.{IsPattern}
+use Rattle.cursor_forward.specs.Search.Patterns.{Pattern, ExprPattern}
 use Rattle.schedule_calls.specs.Requests.{Move, Parent, Next, Prev, Body, Before, After, Expand}
 use Rattle.schedule_calls.specs.Requests.{Item}
 use Rattle.schedule_calls.specs.Requests.{Asked, Under, Found, Here, Division, Window}

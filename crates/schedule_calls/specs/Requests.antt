@@ -3,7 +3,7 @@ use Rattle.std.specs.Prelude.{ℕ, Bool, List, Option}
 use Rattle.exo_tree.specs.Places.{Branch}
 use Rattle.text_expressions.specs.Expression.{Tree}
 use Rattle.exo_reader.specs.Source.{Coordinate}
-use Rattle.cursor_patterns.specs.Patterns.{Pattern, ExprPattern}
+use Rattle.cursor_forward.specs.Search.Patterns.{Pattern, ExprPattern}
 use Rattle.schedule_calls.specs.declared.operator.CursorOperator.{CursorOperator}
 use Rattle.schedule_calls.specs.declared.operator.ControlOperator.{ControlOperator}
 use Rattle.schedule_calls.specs.declared.operator.WordOperator.{WordOperator}

@@ -1,7 +1,7 @@
 //! Arguments of operators.
 
 ghost use Rattle.std.specs.Prelude.{◌≡◌, IfOk, option_map};
-ghost use Rattle.cursor_patterns.specs.PlainPattern.{plain_expr_pattern};
+ghost use Rattle.cursor_forward.specs.Search.PlainPattern.{plain_expr_pattern};
 ghost use Rattle.text_expressions.specs.Views.{tree_of};
 ghost use Rattle.exo_reader.specs.Views.{plain_window};
 ghost use Rattle.schedule_text.specs.Views.{plain_argument, plain_cursor, plain_found};
@@ -16,7 +16,7 @@ use crate::request::{Asked, Source};
 use crate::string::{
     condition_of, control_of, either_of, expression_of, name_of, pattern_of, window_of,
 };
-use cursor_patterns::ExprPattern;
+use cursor_forward::search::ExprPattern;
 use exo_reader::source::SourceWindow;
 use exo_tree::Name;
 use schedule_text::source::{ArgText, CursorText, Found, Quoted};

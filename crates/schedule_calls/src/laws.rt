@@ -4,7 +4,7 @@ ghost use Rattle.schedule_calls.specs.Instance.{LinesInstance, FormsInstance};
 
 use exo_reader::laws as texts;
 use exo_reader::laws::{expressions_are_one, windows_are_one};
-use schedule_patterns::laws::{expr_patterns_are_one, patterns_are_one, text_instance};
+use schedule_text::patterns::laws::{expr_patterns_are_one, patterns_are_one, text_instance};
 
 /// A line asks for one thing, and one whose operator is unknown for none.
 pub fn lines_ask_once()

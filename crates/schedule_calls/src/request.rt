@@ -1,7 +1,7 @@
 //! What a line asks for. Names and moves are those of the line.
 
 use crate::operator::{ControlOperator, CursorOperator, WholeOperator, WordOperator};
-use cursor_patterns::{ExprPattern, Pattern};
+use cursor_forward::search::{ExprPattern, Pattern};
 use exo_reader::source::SourceWindow;
 use exo_tree::{Branch, Name};
 use schedule_text::source::Move;

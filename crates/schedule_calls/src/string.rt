@@ -2,7 +2,7 @@
 
 ghost use Rattle.std.specs.Prelude.{◌≡◌, None, IfOk, map};
 ghost use Rattle.std.specs.List.{list_all};
-ghost use Rattle.cursor_patterns.specs.PlainPattern.{plain_expr_pattern};
+ghost use Rattle.cursor_forward.specs.Search.PlainPattern.{plain_expr_pattern};
 ghost use Rattle.text_expressions.specs.Views.{tree_of};
 ghost use Rattle.exo_reader.specs.Views.{plain_coordinate, plain_window};
 ghost use Rattle.rules_names.specs.Arguments.{is_coordinate_form};
@@ -13,15 +13,15 @@ ghost use Rattle.schedule_calls.specs.Readings.{IsEitherOf, IsAnyWindowOf, IsWin
 ghost use Rattle.schedule_calls.specs.PlainRequest.{plain_found};
 ghost use Rattle.schedule_calls.specs.Answers.{AsksOne};
 
-use cursor_patterns::{ExprPattern, Pattern};
+use cursor_forward::search::{ExprPattern, Pattern};
 use exo_reader::laws::{expressions_are_one, windows_are_one};
 use exo_reader::source::{SourceCoord, SourceWindow};
 use exo_reader::string::{read_expr, read_window};
 use exo_reader::unit::{ReadError, ReadKind};
 use exo_tree::Name;
 use rules_names::argument::{is_condition_form, is_control_form};
-use schedule_patterns::laws::{expr_patterns_are_one, patterns_are_one};
-use schedule_patterns::{read_expr_pattern, read_name, read_pattern};
+use schedule_text::patterns::laws::{expr_patterns_are_one, patterns_are_one};
+use schedule_text::patterns::{read_expr_pattern, read_name, read_pattern};
 use schedule_text::source::Quoted;
 use std::alloc::{AllocError, Global};
 use text_expressions::source::SourceExpr;

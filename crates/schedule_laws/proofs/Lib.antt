@@ -1,3 +1,4 @@
 pub mod OfVersions
 pub mod OfOperators
 pub mod OfNames
+pub mod OfOwed

@@ -1,3 +1,4 @@
 pub mod Versions
 pub mod Operators
 pub mod Names
+pub mod Owed

@@ -7,7 +7,7 @@ use Rattle.exo_tree.specs.Tree.{Binder, Control, Condition, Statement, If, For, 
 use Rattle.exo_tree.specs.Tree.{block}
 use Rattle.exo_tree.specs.Context.{Here, After, InLoop, InThen, InElse}
 use Rattle.exo_tree.specs.Places.{Branch, Main, Else, Path, opened}
-use Rattle.owed_laws.specs.Stores.{IsStore, StoreChanged}
+use Rattle.schedule_laws.specs.Owed.Stores.{IsStore, StoreChanged}
 use Rattle.loop_laws.specs.SameTrees.{same_control, same_condition}
 use Rattle.schedule_run.specs.Changed.{same_binder, to, StoreIn, StoreUnder, ChangedIn, ChangedAt}
 use Rattle.schedule_run.proofs.SameNames.{binders_are, each_control_is, each_condition_is}

@@ -31,9 +31,10 @@ use Rattle.schedule_run.specs.Planned.{Made, Not, then_make, as_found, as_tried,
 use Rattle.schedule_run.specs.Planned.{planned}
 use Rattle.schedule_run.specs.declared.why.Why as memory
 use Rattle.schedule_run.proofs.Plans.{got_same, got_not}
-use Rattle.owed_laws.specs.Stores.{StoreChanged, StoreVersion, stands_at, with_others_there}
-use Rattle.owed_laws.specs.Stores.{claims_there, owed_there, owed_with_store}
-use Rattle.owed_laws.specs.Stores.{ChangedStoresOweTheirOwn}
+use Rattle.schedule_laws.specs.Owed.Stores.{StoreChanged, StoreVersion, stands_at}
+use Rattle.schedule_laws.specs.Owed.Stores.{with_others_there}
+use Rattle.schedule_laws.specs.Owed.Stores.{claims_there, owed_there, owed_with_store}
+use Rattle.schedule_laws.specs.Owed.Stores.{ChangedStoresOweTheirOwn}
 use Rattle.schedule_run.specs.Follows.{ComesOf, Follows}
 use Rattle.schedule_run.specs.Running.{AreKept}
 use Rattle.schedule_run.specs.Spliced.{IsSpliced}

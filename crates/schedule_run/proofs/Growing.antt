@@ -9,7 +9,7 @@ use Rattle.config_laws.specs.Differing.{Origin, parent_in}
 use Rattle.bounds_check.specs.Obligations.{Fault, list_fault}
 use Rattle.unit_check.specs.Checked as unit_check
 use Rattle.unit_check.specs.Checked.{first_open}
-use Rattle.cursor_patterns.specs.Patterns.{Pattern}
+use Rattle.cursor_forward.specs.Search.Patterns.{Pattern}
 use Rattle.cursor_forward.specs.Cursors.{Cursor}
 use Rattle.cursor_forward.specs.Proposals.{Plan}
 use Rattle.step_rules.specs.Rule.{Tried}

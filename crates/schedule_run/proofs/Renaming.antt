@@ -11,18 +11,18 @@ use Rattle.affine_systems.specs.declared.obligation.Obligation.{Obligation}
 use Rattle.cursor_forward.specs.Causes.{Cause}
 use Rattle.cursor_forward.specs.Proposals.{Plan}
 use Rattle.cursor_forward.specs.Shifts.{at_index}
-use Rattle.made_trees.specs.Ids.{next_id}
-use Rattle.made_trees.specs.Names.{named_copies}
-use Rattle.made_trees.specs.Passes.{or_pass}
+use Rattle.tree_edits.specs.Made.Ids.{next_id}
+use Rattle.tree_edits.specs.Made.Names.{named_copies}
+use Rattle.tree_edits.specs.Made.Passes.{or_pass}
 use Rattle.tree_laws.specs.Findings.Versions.{ProcedureLaw, with_version}
-use Rattle.tree_rules.specs.Classes.{both}
-use Rattle.tree_rules.specs.Findings.{findings_of_body, findings_of_version}
+use Rattle.tree_findings.specs.Classes.{both}
+use Rattle.tree_findings.specs.Findings.{findings_of_body, findings_of_version}
 use Rattle.step_rules.specs.Rule.{Got, Rule, Spot, Tried}
 use Rattle.step_rules.specs.Owing.{findings_of_needs, shape_alone}
 use Rattle.step_rules.specs.Answer.{body_with, broken, plan, result, spot, unless}
 use Rattle.proc_laws.specs.Expression.Rename.{rename_rule}
-use Rattle.owed_laws.specs.Names.{OwnNamesStay}
-use Rattle.owed_laws.specs.Renamed.{OwesTheSame, renamed, RenamedOwesTheSame}
+use Rattle.schedule_laws.specs.Owed.Names.{OwnNamesStay}
+use Rattle.schedule_laws.specs.Owed.Renamed.{OwesTheSame, renamed, RenamedOwesTheSame}
 use Rattle.schedule_laws.specs.Versions.Versions.{Versions, version_at}
 use Rattle.schedule_laws.specs.Versions.Lines.{target}
 use Rattle.schedule_laws.specs.Operators.Calls.{procedure_call}

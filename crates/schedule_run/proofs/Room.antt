@@ -6,7 +6,7 @@ use Rattle.std.specs.List.{list_all}
 use Rattle.std.proofs.lemmas.Bool.{and_parts}
 use Rattle.exo_tree.specs.Tree.{Procedure}
 use Rattle.exo_meaning.specs.Units.{bound_ids}
-use Rattle.made_trees.specs.Ids.{above_all, next_id}
+use Rattle.tree_edits.specs.Made.Ids.{above_all, next_id}
 use Rattle.schedule_run.specs.Laws.{SmallUnitsHaveRoom}
 
 highest : (n : ℕ) (xs : List ℕ) → list_all (λ x. nat_lt x n) xs ≡ true → above_all xs ≤ n

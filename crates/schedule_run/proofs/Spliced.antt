@@ -11,7 +11,7 @@ use Rattle.exo_tree.specs.Places.{Path}
 use Rattle.affine_systems.specs.Limits.{are_within}
 use Rattle.affine_systems.specs.Outcomes.{Owed, plain_obligation}
 use Rattle.affine_systems.specs.declared.obligation.Obligation.{Obligation}
-use Rattle.owed_laws.specs.Stores.{stands_at, behind_those, with_others_there}
+use Rattle.schedule_laws.specs.Owed.Stores.{stands_at, behind_those, with_others_there}
 use Rattle.schedule_run.specs.Spliced.{IsSpliced}
 
 next : (n : ℕ) → 1 + n ≡ suc n

@@ -6,7 +6,7 @@ use Rattle.exo_tree.specs.Context.{Context, fill}
 use Rattle.exo_tree.specs.Places.{Branch, Step, Path, opened_in}
 use Rattle.exo_meaning.specs.Units.{is_text}
 use Rattle.loop_laws.specs.SameTrees.{same_statement}
-use Rattle.owed_laws.specs.Stores.{IsStore}
+use Rattle.schedule_laws.specs.Owed.Stores.{IsStore}
 
 -- ---- the names of binders
 

@@ -4,7 +4,7 @@ use Rattle.std.specs.List.{list_any}
 use Rattle.exo_tree.specs.Places.{Path}
 use Rattle.affine_systems.specs.Limits.{are_within}
 use Rattle.affine_systems.specs.Outcomes.{Owed}
-use Rattle.owed_laws.specs.Stores.{stands_at, with_others_there}
+use Rattle.schedule_laws.specs.Owed.Stores.{stands_at, with_others_there}
 
 -- one of them stands there, and the list is within the limits
 pub record IsSpliced (path : Path) (own kept made : List Owed) : Type 0 where

@@ -2,7 +2,7 @@
 ghost use Rattle.std.specs.Prelude.{◌≡◌, ◌+◌, ◌++◌, ◌∷◌, [], suc, OnOk};
 ghost use Rattle.exo_tree.specs.PlainUnit.{program};
 ghost use Rattle.exo_meaning.specs.Units.{IsUnit};
-ghost use Rattle.cursor_patterns.specs.PlainPattern.{plain_pattern};
+ghost use Rattle.cursor_forward.specs.Search.PlainPattern.{plain_pattern};
 ghost use Rattle.schedule_text.specs.Views.{plain_move};
 ghost use Rattle.schedule_calls.specs.Readings.{move};
 ghost use Rattle.schedule_calls.specs.PlainRequest.{moves_of};
@@ -19,7 +19,7 @@ use crate::session::{Binding, Held, Session};
 use crate::why::Why;
 use config_live::Origin;
 use cursor_forward::Edits;
-use cursor_patterns::Pattern;
+use cursor_forward::search::Pattern;
 use exo_tree::{Name, ProcId};
 use schedule_text::source::Move;
 use std::alloc::{AllocError, Global};

@@ -1,14 +1,14 @@
 //! The one store in which two bodies differ.
-ghost use Rattle.std.specs.Prelude.{◌≡◌, ◌++◌, ◌∷◌, ◌<◌, [], true, take, drop, length, IfSome};
+ghost use Rattle.std.specs.Prelude.{◌≡◌, true, take, drop, IfSome};
 ghost use Rattle.exo_tree.specs.Tree.{block};
 ghost use Rattle.exo_tree.specs.PlainBinder.{binding};
 ghost use Rattle.exo_tree.specs.PlainPlace.{branch_taken};
 ghost use Rattle.exo_tree.specs.PlainStatement.{statement};
-ghost use Rattle.owed_laws.specs.Stores.{IsStore, StoreChanged};
+ghost use Rattle.schedule_laws.specs.Owed.Stores.{IsStore, StoreChanged};
 ghost use Rattle.schedule_run.specs.Changed as plain;
-ghost use Rattle.schedule_run.specs.Changed.{ChangedAt, ChangedIn, to};
+ghost use Rattle.schedule_run.specs.Changed.{ChangedAt, ChangedIn};
 
-use exo_tree::{Binder, Block, Branch, Path, Step, Stmt};
+use exo_tree::{Binder, Block, Branch, Path, Stmt};
 use loop_rewrites::nest::{same_condition, same_control, same_statement};
 
 /// Whether two binders are the same.
@@ -111,16 +111,6 @@ fn if_stores(path: &Path, a: &Stmt, b: &Stmt) -> Option<Path>
     }
 }
 
-/// The path of a statement in a branch of the statement at the path.
-fn into(path: &Path, branch: Branch, index: u32) -> Path
-    requires { length path.now < 32 }
-    ensures { result ≡ path.now ++ to (branch_taken branch) index ∷ [] }
-{
-    let mut inner = path.duplicate();
-    inner.push(Step { branch, index });
-    inner
-}
-
 /// The path of the one store in which two blocks differ that stand in a branch at the path; None
 /// where they are the same, where more than a store differs, and where the path is too long.
 #[cycle(changed)]
@@ -135,7 +125,7 @@ fn changed_in(outer: &Path, branch: Branch, old: &Block, new: &Block) -> Option<
     if !same_from(old, new, index + 1) {
         return None;
     }
-    let path = into(outer, branch, index as u32);
+    let path = outer.below(branch, index as u32);
     changed_at(&path, old.statement(index), new.statement(index))
 }
 

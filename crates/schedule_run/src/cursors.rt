@@ -3,7 +3,7 @@ ghost use Rattle.std.specs.Prelude.{◌≡◌, ◌∷◌, map, Some, IfOk, optio
 ghost use Rattle.exo_tree.specs.Tree.{block};
 ghost use Rattle.exo_tree.specs.PlainUnit.{program};
 ghost use Rattle.exo_meaning.specs.Units.{IsUnit};
-ghost use Rattle.cursor_patterns.specs.PlainPattern.{plain_pattern};
+ghost use Rattle.cursor_forward.specs.Search.PlainPattern.{plain_pattern};
 ghost use Rattle.cursor_forward.specs.PlainCursor.{plain_cursor};
 ghost use Rattle.schedule_text.specs.Views.{plain_move};
 ghost use Rattle.schedule_calls.specs.Readings.{move};
@@ -24,10 +24,10 @@ use crate::session::{Held, Session};
 use crate::why::{Missing, Why};
 use config_live::descends;
 use cursor_forward::laws::units_are_searchable;
+use cursor_forward::search::Pattern;
 use cursor_forward::{
     Cursor, after, before, body, expand, find, forward, item, next, parent, prev,
 };
-use cursor_patterns::Pattern;
 use exo_tree::{Proc, ProcId};
 use schedule_calls::{Asked, Source};
 use schedule_text::source::{Direction, Move};

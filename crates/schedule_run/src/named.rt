@@ -9,11 +9,10 @@ use exo_tree::{Field, FieldId, Kind, MemId, Name, Unit};
 use text_lexer::text::Text;
 
 /// Whether the name is spelled so.
-#[tactic(auto, using(rules_names::proofs::Scopes::text_turned))]
 fn is_spelled(name: &Name, bytes: &[u8]) -> bool
     ensures { result ≡ is_text name.now bytes.now }
 {
-    bytes == name.as_str().as_bytes()
+    name.as_str().as_bytes() == bytes
 }
 
 /// The memory of that name; None exactly where there is none.

@@ -1,6 +1,5 @@
 //! Where operators work.
-ghost use Rattle.std.specs.Prelude.{◌≡◌, ◌≤◌, length, map, option_map};
-ghost use Rattle.exo_tree.specs.PlainPlace.{step_taken};
+ghost use Rattle.std.specs.Prelude.{◌≡◌, option_map};
 ghost use Rattle.exo_tree.specs.PlainUnit.{program};
 ghost use Rattle.exo_meaning.specs.Units.{IsUnit};
 ghost use Rattle.cursor_forward.specs.PlainCursor.{plain_cursor, plain_side};
@@ -17,7 +16,7 @@ ghost use Rattle.schedule_run.specs.PlainVersions.{versions};
 use crate::session::Session;
 use crate::why::Why;
 use cursor_forward::{Cursor, Side, StepError};
-use exo_tree::{Branch, Path, ProcId, Step};
+use exo_tree::{Branch, Path, ProcId};
 use schedule_calls::Asked;
 use std::alloc::Global;
 use step_driver::Piece;
@@ -80,18 +79,6 @@ fn before_gap(number: u32, side: Side) -> Option<u32>
     }
 }
 
-/// The path of these steps.
-fn path_of(steps: &[Step]) -> Path
-    requires { length steps.now ≤ 32 }
-    ensures { result ≡ map step_taken steps.now }
-{
-    let mut path = Path::new();
-    for step in steps {
-        path.push(*step);
-    }
-    path
-}
-
 /// A statement in the block of another one.
 #[derive(Drop)]
 pub(crate) struct Within {
@@ -111,7 +98,7 @@ fn within_of(path: &Path) -> Option<Within>
         return None;
     }
     Some(Within {
-        around: path_of(up),
+        around: Path::from_steps(up),
         branch: last.branch,
         index: last.index,
     })
@@ -141,7 +128,7 @@ fn gap_beside(path: &Path, side: Side) -> Option<GapIn>
     }
     match before_gap(last.index, side) {
         Some(before) => Some(GapIn {
-            around: path_of(up),
+            around: Path::from_steps(up),
             before,
         }),
         None => None,

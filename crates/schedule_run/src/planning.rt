@@ -31,14 +31,14 @@ use buffer_rewrites::DeletingBuffer;
 use call_rewrites::{Inlining, InliningWindow, Simplifying};
 use cursor_forward::Proposal;
 use exo_tree::{Branch, Path};
-use expression_rewrites::{Commuting, Deleting, Renaming};
 use field_rewrites::DeletingField;
 use loop_rewrites::nest::{Fissioning, Fusing, Joining, Reordering};
 use loop_rewrites::{Dividing, Multiplying, Unrolling};
+use proc_rewrites::expressions::{Commuting, Deleting, Renaming};
+use proc_rewrites::{Emptying, Exchanging, Keeping, Lifting, Removing};
 use schedule_calls::{
     Asked, Change, CursorOperator, Division, Operation, Tail, WholeOperator, WordOperator,
 };
-use statement_rewrites::{Emptying, Exchanging, Keeping, Lifting, Removing};
 use std::alloc::Global;
 use step_driver::{Operator, Target, propose};
 use step_targets::{AtLoop, AtPiece};

@@ -27,7 +27,7 @@ use crate::why::Why;
 use cursor_forward::Proposal;
 use exo_tree::{Cond, Ctrl, Path};
 use loop_rewrites::{Cutting, Shifting, Specializing};
-use rules_scopes::{cond_at, ctrl_at};
+use rules_names::scopes::{cond_at, ctrl_at};
 use schedule_calls::{Asked, ControlOperator};
 use std::alloc::Global;
 use step_driver::{Piece, Target};

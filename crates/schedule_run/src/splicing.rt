@@ -5,7 +5,7 @@ ghost use Rattle.exo_tree.specs.Tree.{Procedure};
 ghost use Rattle.exo_tree.specs.PlainUnit.{program};
 ghost use Rattle.affine_systems.specs.Limits.{are_within};
 ghost use Rattle.affine_systems.specs.Outcomes.{plain_obligation};
-ghost use Rattle.owed_laws.specs.Stores.{StoreChanged, stands_at};
+ghost use Rattle.schedule_laws.specs.Owed.Stores.{StoreChanged, stands_at};
 ghost use Rattle.schedule_run.specs.Follows.{Follows};
 ghost use Rattle.schedule_run.specs.Running.{AreKept, IsRunning};
 ghost use Rattle.schedule_run.specs.Spliced.{IsSpliced};
@@ -16,7 +16,7 @@ use affine_systems::{Obligation, OwedList};
 use bounds_check::obligations_there;
 use check_facts::is_same_path;
 use exo_tree::{Path, ProcId};
-use owed_laws::laws::changed_stores_owe_their_own;
+use schedule_laws::owed::laws::changed_stores_owe_their_own;
 use std::alloc::Global;
 
 /// How many obligations come before the first that stands at the path.

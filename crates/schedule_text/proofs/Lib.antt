@@ -5,3 +5,4 @@ mod Lines
 mod Schedules
 mod Eased
 mod Examples
+pub mod OfPatterns

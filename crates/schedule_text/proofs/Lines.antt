@@ -1,7 +1,7 @@
 -- The productions of lines.
 use Rattle.std.proofs.Common.{◌≡◌, ℕ, ◌+◌, ◌<◌, List, [], ◌∷◌, ◌++◌, Option, Some, length, refl, sym, ap, ◌∙◌, subst, arith, append_assoc}
 use Rattle.std.proofs.lemmas.List.{length-append}
-use Rattle.std.specs.Prelude.{Result, Ok, Err, IfOk}
+use Rattle.std.specs.Prelude.{Result, Ok, Err}
 use Rattle.text_phrases.specs.Limits.{Limits, in_length, Cause, passed, syntax}
 use Rattle.text_phrases.specs.Phrase.{first, Phrase, Taken, Refused}
 use Rattle.text_phrases.specs.Sequence.{exactly, then}
@@ -18,6 +18,7 @@ use Rattle.text_lexer.specs.declared.token.Sign.TheVariants.{Open, Close, OpenBr
 use Rattle.text_expressions.specs.Values.{IsShortName, name}
 use Rattle.schedule_text.specs.Tree.{Move, go, expand, item, Arguments, Act, operation, search, moved, Line, bind, emit}
 use Rattle.schedule_text.specs.Words.{find_word, emit_word}
+use Rattle.schedule_text.specs.Patterns.Texts.{ReadsAs}
 use Rattle.schedule_text.specs.Grammar.{BeginsMove, move, moves, found, arguments, act, line}
 use Rattle.exo_reader.proofs.Parts.{name_fits, no_name}
 use Rattle.schedule_text.proofs.Moving.{literal_zero}
@@ -69,13 +70,12 @@ pub name_whole : (tokens rest : List Token) (x : List ℕ) → Taken name tokens
 name_whole tokens rest x taken = taken.whole
 
 -- what was read, where these tokens stand behind it
-pub reads_ended : {T A V X : Type 0} {first : Phrase Token A} {words : List Token} (whole : Phrase Token T) (build : A × (Unit {0}) → T) (tokens after middle : List Token) (t : A) (plain : V → T) (v : V) (value : X → V) (rest : X → List Token) (result : Result X Refusal) → Step whole (then first (exactly words)) build tokens after → Joint first (exactly words) → Taken first after t middle → Reads (exactly words) middle (λ _. tt) rest result → IfOk result (λ x. value x ≡ v) → plain v ≡ build (t, tt) → Reads whole tokens (λ x. plain (value x)) rest result
-reads_ended {first = first} {words = words} whole build tokens after middle t plain v value rest (Ok x) step joint taken reads same is =
-    subst (λ y. Taken whole tokens (plain y) (rest x)) (sym same)
-    (subst (λ z. Taken whole tokens z (rest x)) (sym is)
-    (step_taken whole (then first (exactly words)) build tokens after (rest x) (t, tt) step (both joint taken reads)))
-reads_ended {first = first} {words = words} whole build tokens after middle t plain v value rest (Err e) step joint taken reads same is =
-    whole_err whole (then first (exactly words)) build tokens after e step (later joint taken e reads)
+pub reads_ended : {T A V X : Type 0} {first : Phrase Token A} {words : List Token} (whole : Phrase Token T) (build : A × (Unit {0}) → T) (tokens after middle : List Token) (t : A) (plain : V → T) (v : V) (value : X → V) (rest : X → List Token) (result : Result X Refusal) → Step whole (then first (exactly words)) build tokens after → Joint first (exactly words) → Taken first after t middle → ReadsAs (exactly words) (λ _. v) middle value rest result → ((s : Unit {0}) → plain v ≡ build (t, s)) → Reads whole tokens (λ x. plain (value x)) rest result
+reads_ended {first = first} {words = words} whole build tokens after middle t plain v value rest (Ok x) step joint taken m same =
+    subst (λ z. Taken whole tokens z (rest x)) (sym (ap plain m.is ∙ same m.written))
+    (step_taken whole (then first (exactly words)) build tokens after (rest x) (t, m.written) step (both joint taken m.taken))
+reads_ended {first = first} {words = words} whole build tokens after middle t plain v value rest (Err e) step joint taken refuses same =
+    whole_err whole (then first (exactly words)) build tokens after e step (later joint taken e refuses)
 
 -- operators
 

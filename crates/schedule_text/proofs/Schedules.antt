@@ -16,12 +16,12 @@ use Rattle.text_lexer.specs.declared.place.Place.{Place}
 use Rattle.text_lexer.specs.declared.token.Token.{Token}
 use Rattle.text_lexer.specs.declared.token.Token.TheVariants.{Name, Sign, NewLine}
 use Rattle.text_lexer.specs.declared.token.Sign.TheVariants.{Assign}
-use Rattle.exo_reader.specs.Parts.{StartsWithName}
+use Rattle.text_expressions.specs.Starts.{StartsWithName, RefusesItem}
 use Rattle.exo_reader.proofs.Lists.{map_snoc}
 use Rattle.exo_reader.proofs.Units.{some_left}
 use Rattle.schedule_text.specs.Tree as tree
 use Rattle.schedule_text.specs.Tree.{bind, search}
-use Rattle.schedule_text.specs.Grammar.{act, line, FewLines, schedule, RefusesLine}
+use Rattle.schedule_text.specs.Grammar.{act, line, FewLines, schedule}
 use Rattle.schedule_text.specs.Views.{plain_line, number}
 use Rattle.schedule_text.specs.Texts.{number_at, line_numbers}
 use Rattle.schedule_text.specs.declared.source.Line.{Line}
@@ -116,7 +116,7 @@ name_there [] starts = absurd starts
 name_there (Name n ∷ more) starts = (n, more, refl)
 name_there (other ∷ more) starts = absurd starts
 
-refuses_line : (tokens rest more : List Token) (a : Token) (list : List tree.Line) (e : Refusal) → Items line AtEnd tokens list rest → FewLines list → 4096 ≤ length list → rest ≡ a ∷ more → RefusesLine rest e → Refuses schedule tokens e
+refuses_line : (tokens rest more : List Token) (a : Token) (list : List tree.Line) (e : Refusal) → Items line AtEnd tokens list rest → FewLines list → 4096 ≤ length list → rest ≡ a ∷ more → RefusesItem rest e → Refuses schedule tokens e
 refuses_line tokens rest more a list r.Memory items short full is refuses = tt
 refuses_line tokens rest more a list (r.Syntax last) items short full is refuses =
     subst (λ (n : ℕ). Refused schedule syntax tokens n) (sym refuses.1) (lines_wrong tokens rest list items short (λ s. refuses.0 (starts_with_name rest s)) (some_left rest more a is))
@@ -126,7 +126,7 @@ refuses_line tokens rest more a list (r.TooLong last) items short full is refuse
     subst (λ (n : ℕ). Refused schedule too_long tokens n) (sym refuses.1) (lines_long tokens rest there.1 there.0 list items short full there.2)
 refuses_line tokens rest more a list (r.TooLarge last) items short full is refuses = absurd refuses
 
-pub many_lines : (tokens rest more : List Token) (a : Token) (list : List Line) (e : Refusal) → Items line AtEnd tokens (map plain_line list) rest → length list ≤ 4096 → 4096 ≤ length list → rest ≡ a ∷ more → RefusesLine rest e → Faults schedule tokens e
+pub many_lines : (tokens rest more : List Token) (a : Token) (list : List Line) (e : Refusal) → Items line AtEnd tokens (map plain_line list) rest → length list ≤ 4096 → 4096 ≤ length list → rest ≡ a ∷ more → RefusesItem rest e → Faults schedule tokens e
 many_lines tokens rest more a list e items short full is refuses =
     text_err schedule tokens e refl (refuses_line tokens rest more a (map plain_line list) e items (few list short) (omega (arith, full, length-map list plain_line)) is refuses)
 

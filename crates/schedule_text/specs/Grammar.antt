@@ -4,8 +4,6 @@ use Rattle.text_phrases.specs.Limits.{Limits}
 use Rattle.text_phrases.specs.Phrase.{Phrase}
 use Rattle.text_phrases.specs.Sequence.{many, several}
 use Rattle.text_phrases.specs.Commas.{commas}
-use Rattle.text_phrases.specs.declared.Refusal.{Refusal}
-use Rattle.text_phrases.specs.declared.Refusal.TheVariants.{TooLong, Syntax}
 use Rattle.text_lexer.specs.declared.token.Literal.{Literal}
 use Rattle.text_lexer.specs.declared.token.Token.{Token}
 use Rattle.text_lexer.specs.declared.token.Token.TheVariants.{Name, Sign, Word, NewLine}
@@ -13,7 +11,7 @@ use Rattle.text_lexer.specs.declared.token.Sign.TheVariants.{Open, Close, OpenBr
 use Rattle.text_lexer.specs.declared.token.Sign.TheVariants.{Comma, Dot, Assign}
 use Rattle.text_lexer.specs.declared.token.Word.TheVariants as w
 use Rattle.text_expressions.specs.Values.{name, literal}
-use Rattle.exo_reader.specs.Parts.{Is, StartsWithName}
+use Rattle.exo_reader.specs.Parts.{Is}
 use Rattle.exo_reader.specs.Items.{neighbours}
 use Rattle.schedule_text.specs.Tree.{Move, go, expand, item, Found, Cursor, held, KeyValue, text}
 use Rattle.schedule_text.specs.Tree.{yes, no, Argument, cursor, string, int, pair, key, Arguments}
@@ -163,9 +161,3 @@ FewLines lines = length lines ≤ 4096
 
 abbrev pub schedule : Phrase Token (List Line)
 schedule = several line FewLines (λ o. o ≡ None)
-
--- why no line stands behind as many as may be
-abbrev pub RefusesLine : List Token → Refusal → Type 0
-RefusesLine tokens (TooLong last) = StartsWithName tokens × (last ≡ length tokens)
-RefusesLine tokens (Syntax last) = (StartsWithName tokens → ⊥) × (last ≡ length tokens)
-RefusesLine tokens other = ⊥

@@ -3,3 +3,4 @@ pub mod Words
 pub mod Grammar
 pub mod Views
 pub mod Texts
+pub mod Patterns

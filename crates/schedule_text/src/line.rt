@@ -1,11 +1,9 @@
 //! Lines of schedules.
 
-ghost use Rattle.std.specs.Prelude.{◌≡◌, ◌∷◌, Some, map, IfOk};
+ghost use Rattle.std.specs.Prelude.{◌≡◌, ◌∷◌, Some};
 ghost use Rattle.text_phrases.specs.Phrase.{first, Taken, Refused};
 ghost use Rattle.text_phrases.specs.Answers.{Reads};
-ghost use Rattle.text_phrases.specs.Sequence.{exactly};
 ghost use Rattle.text_lexer.specs.declared.token.Token.{Token};
-ghost use Rattle.text_expressions.specs.Fixed.{token_of};
 ghost use Rattle.text_expressions.specs.Values.{IsShortName};
 ghost use Rattle.schedule_text.specs.Words.{find_word, emit_word};
 ghost use Rattle.schedule_text.specs.Grammar.{act, line};
@@ -13,6 +11,7 @@ ghost use Rattle.schedule_text.specs.Views.{plain_act, plain_statement};
 
 use crate::argument::{read_arguments, read_found};
 use crate::moves::{read_move, read_moves};
+use crate::patterns::part::followed_by;
 use crate::source::{Act, Statement};
 use crate::word::{is_emit, is_find};
 use exo_reader::part::read_name_and;
@@ -21,19 +20,6 @@ use text_expressions::front::{Fixed, behind, expect_all, read_name};
 use text_lexer::text::Text;
 use text_lexer::token::{Sign, Token};
 use text_phrases::Refusal;
-
-/// What was read, with these tokens behind it.
-fn followed_by<'a, T: Drop>(
-    value: T,
-    tokens: &'a [Token],
-    words: &[Fixed],
-) -> Result<(T, &'a [Token]), Refusal>
-    ensures reads { Reads (exactly (map token_of words.now)) tokens.now (λ _. tt) (λ x. x.1.now) result }
-    ensures same { IfOk result (λ x. x.0 ≡ value) }
-{
-    let rest = expect_all(tokens, words)?;
-    Ok((value, rest))
-}
 
 /// The arguments of an operator, behind their parenthesis.
 fn read_operation(alloc: Global, name: Text, inside: &[Token]) -> Result<(Act, &[Token]), Refusal>

@@ -2,16 +2,16 @@
 
 ghost use Rattle.std.specs.Prelude.{◌≡◌, ◌+◌, ◌≤◌, length, map, IfOk, MatchResult};
 ghost use Rattle.text_phrases.specs.Text.{IsText, Faults};
-ghost use Rattle.schedule_text.specs.Grammar.{schedule, RefusesLine};
+ghost use Rattle.schedule_text.specs.Grammar.{schedule};
 ghost use Rattle.schedule_text.specs.Views.{plain_line, number};
 ghost use Rattle.schedule_text.specs.Texts.{line_numbers, ReadsSchedule};
 
 use crate::line::read_line;
 use crate::source::{Line, Schedule};
-use exo_reader::parameter::name_stands_first;
 use exo_reader::refusal::{error_of, without_memory};
 use exo_reader::unit::ReadError;
 use std::alloc::Global;
+use text_expressions::front::refuse_item;
 use text_lexer::lexer::lex;
 use text_lexer::place::Place;
 use text_lexer::token::{Token, next};
@@ -19,17 +19,6 @@ use text_phrases::Refusal;
 
 /// The most lines that are not skipped.
 pub const LINES: usize = 4096;
-
-/// Why no line stands there, where there are as many as may be.
-fn refuse_line(tokens: &[Token]) -> Refusal
-    ensures { RefusesLine tokens.now result }
-{
-    if name_stands_first(tokens) {
-        Refusal::TooLong(tokens.len())
-    } else {
-        Refusal::Syntax(tokens.len())
-    }
-}
 
 /// The lines that the tokens are, all of them, at most 4,096. Behind the places of the tokens stands that of the end.
 fn read_lines(alloc: Global, tokens: &[Token], places: &[Place]) -> Result<Vec<Line>, Refusal>
@@ -41,7 +30,7 @@ fn read_lines(alloc: Global, tokens: &[Token], places: &[Place]) -> Result<Vec<L
     let mut rest = tokens;
     'more: while let Some(_) = next(rest) {
         if lines.len() >= LINES {
-            return Err(refuse_line(rest));
+            return Err(refuse_item(rest));
         }
         let number = places[tokens.len() - rest.len()].line;
         let (statement, after) = read_line(alloc, rest)?;

@@ -15,7 +15,7 @@ use Rattle.buffer_laws.specs.StageMem.{Staging, staged_block}
 use Rattle.cursor_forward.specs.Causes as causes
 use Rattle.cursor_forward.specs.PlainProposal.{fault_of, cause_of}
 use Rattle.cursor_forward.specs.declared.proposal.StepError.{StepError}
-use Rattle.step_needs.specs.Outcomes.{RefusedBy, Tries}
+use Rattle.step_driver.specs.Needs.Outcomes.{RefusedBy, Tries}
 use Rattle.step_rules.specs.Lawful.{old}
 use Rattle.step_rules.specs.Rule.{Tried, Got, Not, Spot, Writing, Need, Says}
 use Rattle.alloc_laws.specs.Stage.Written.{written_as, are_written, accesses_written}

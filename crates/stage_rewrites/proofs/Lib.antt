@@ -5,3 +5,5 @@ pub mod Converted
 pub mod Staged
 pub mod Drafts
 mod Examples
+pub mod OfNeeds
+pub mod OfTested

@@ -1,3 +1,5 @@
 pub mod OnWindow
 pub mod Places
 pub mod Nests
+pub mod Needs
+pub mod Tested

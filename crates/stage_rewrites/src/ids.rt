@@ -3,16 +3,7 @@ ghost use Rattle.std.specs.Prelude.{◌≡◌, ◌+◌, suc, IfOk};
 
 use exo_tree::Id;
 use std::alloc::AllocError;
-
-/// One more; what the program cannot hold is answered as want of memory.
-pub(crate) fn one_more(k: u32) -> Result<u32, AllocError>
-    ensures { IfOk result (λ n. n ≡ suc k) }
-{
-    match k.checked_add(1) {
-        Some(n) => Ok(n),
-        None => Err(AllocError),
-    }
-}
+use tree_uses::one_more;
 
 /// The next id. Past the last there is none, which is answered as want of memory.
 pub(crate) fn next_id(x: Id) -> Result<Id, AllocError>

@@ -4,10 +4,12 @@
 mod drafted;
 mod ids;
 mod lists;
+mod needs;
 mod nests;
 mod on_window;
 mod operator;
 mod places;
+pub mod tested;
 mod writing;
 
 pub use operator::StagingBlock;

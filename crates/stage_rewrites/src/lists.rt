@@ -9,20 +9,14 @@ ghost use Rattle.stage_rewrites.specs.OnWindow.{counted_from};
 
 use exo_tree::{Coord, Coords, Ctrl, Indices};
 use std::alloc::{AllocError, Global};
-
-/// A copy in a box.
-fn boxed(alloc: Global, e: &Ctrl) -> Result<Box<Ctrl>, AllocError>
-    ensures { IfOk result (λ b. control b.value ≡ control e.now) }
-{
-    Ok(Box::new(alloc, e.duplicate(alloc)?)?)
-}
+use tree_edits::made::boxed_copy;
 
 /// The difference of two expressions.
 fn difference(alloc: Global, a: &Ctrl, b: &Ctrl) -> Result<Ctrl, AllocError>
     ensures { IfOk result (λ e. control e ≡ tree.Sub (control a.now) (control b.now)) }
 {
-    let left = boxed(alloc, a)?;
-    Ok(Ctrl::Sub(left, boxed(alloc, b)?))
+    let left = boxed_copy(alloc, a)?;
+    Ok(Ctrl::Sub(left, boxed_copy(alloc, b)?))
 }
 
 /// A coordinate counted from an expression on.

@@ -8,9 +8,10 @@ ghost use Rattle.inplace_laws.specs.Filled.{nest};
 ghost use Rattle.buffer_laws.specs.StageMem as plain;
 ghost use Rattle.stage_rewrites.specs.Nests.{nest_round};
 
-use crate::ids::{next_id, one_more};
+use crate::ids::next_id;
 use exo_tree::{Binder, Block, Ctrl, Id, Indices, Name, Stmt};
 use std::alloc::{AllocError, Global};
+use tree_uses::one_more;
 
 /// `i0`, `i1` and so on.
 fn loop_name(alloc: Global, k: u32) -> Result<Name, AllocError>

@@ -8,20 +8,20 @@ ghost use Rattle.step_driver.specs.PlainTarget.{target, plain_piece};
 ghost use Rattle.step_driver.specs.PlainWriting.{writing};
 ghost use Rattle.step_driver.specs.Spots.{spot_at};
 ghost use Rattle.step_driver.specs.Tables.{HasTables};
-ghost use Rattle.step_needs.specs.Outcomes.{Tries};
-ghost use Rattle.stage_tests.specs.PlainStaging.{plain_staging};
+ghost use Rattle.step_driver.specs.Needs.Outcomes.{Tries};
+ghost use Rattle.stage_rewrites.specs.Tested.PlainStaging.{plain_staging};
 
 use crate::drafted::Draft;
+use crate::needs::{needs_of_accesses, push_needs_of_window};
+use crate::tested::Staging;
 use buffer_rewrites::cell_under;
 use cursor_forward::{Shifts, StepError};
 use exo_tree::{Block, Id, Path};
-use made_trees::Fresh;
-use stage_needs::{needs_of_accesses, push_needs_of_window};
-use stage_tests::Staging;
 use std::alloc::{AllocError, Global};
+use step_driver::needs::Need;
 use step_driver::{Piece, Target, Writing};
-use step_needs::Need;
 use step_targets::{OnPiece, Ruled, at_index, one_shift, range_to};
+use tree_edits::made::Fresh;
 
 /// The step that puts so many statements from a path on on a new buffer that stands for a window:
 /// a nest of loops loads it before them, and another one stores it behind them where they write or

@@ -10,11 +10,11 @@ ghost use Rattle.step_rules.specs.Rule as rule;
 ghost use Rattle.tree_uses.specs.Outcomes.{ComesIf};
 
 use affine_forms::{Atom, Draft, FormError, Reader};
+use affine_places::is_over_variables;
 use exo_tree::{Coord, Coords, Ctrl, FieldId, Id, Indices, Kind};
-use simple_forms::simplified;
 use std::alloc::Global;
 use step_driver::Writing;
-use step_targets::is_over_variables;
+use tree_uses::simple::simplified;
 
 /// Each variable, field and stride is read as itself.
 #[derive(Drop)]

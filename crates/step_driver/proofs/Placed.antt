@@ -4,7 +4,7 @@ use Rattle.std.specs.Prelude.{option_map}
 use Rattle.exo_tree.specs.Tree.{Statement, Block, block, statements}
 use Rattle.exo_tree.specs.Context.{fill}
 use Rattle.exo_tree.specs.Places.{Path, Opened, opened}
-use Rattle.made_trees.specs.Passes.{is_alone}
+use Rattle.tree_edits.specs.Made.Passes.{is_alone}
 use Rattle.cursor_forward.specs.Causes.{WrongShape}
 use Rattle.step_rules.specs.Rule.{Tried, Got, Not, Target, Piece, Rule}
 use Rattle.step_rules.specs.Answer.{then_try, opened_or_wrong, spot, answered, proposed}

@@ -2,8 +2,8 @@
 use Rattle.std.proofs.Common.{◌≡◌, Bool, true, false, ◌&&◌, if◌then◌else◌, Option, Some, None}
 use Rattle.std.proofs.Common.{Result, Ok, Err, refl, ap, sym, ◌∙◌, subst}
 use Rattle.std.specs.Result.{IsErrAnd}
-use Rattle.tree_rules.specs.declared.findings.Findings.{Findings}
-use Rattle.tree_rules.specs.Classes.{both}
+use Rattle.tree_findings.specs.declared.findings.Findings.{Findings}
+use Rattle.tree_findings.specs.Classes.{both}
 use Rattle.cursor_forward.specs.Causes.{Cause, WrongShape}
 use Rattle.cursor_forward.specs.PlainProposal.{cause_of}
 use Rattle.cursor_forward.specs.declared.proposal.StepError.{StepError}

@@ -5,3 +5,4 @@ pub mod PlainExit
 pub mod Spots
 pub mod Stages
 pub mod Outcomes
+pub mod Needs

@@ -1,5 +1,5 @@
 -- What calls answer where a rule says it.
-pub use Rattle.step_needs.specs.Outcomes.{RefusedBy, Tries, IsCause, Refuses}
+pub use Rattle.step_driver.specs.Needs.Outcomes.{RefusedBy, Tries, IsCause, Refuses}
 use Rattle.std.specs.Prelude.{◌≡◌, true}
 use Rattle.exo_meaning.specs.Inputs.{Refines}
 use Rattle.exo_meaning.specs.Run.{program_world}

@@ -3,16 +3,16 @@ use Rattle.std.specs.Prelude.{◌+◌, ℕ, List, length}
 use Rattle.exo_tree.specs.Tree.{Block, statements, Procedure}
 use Rattle.exo_tree.specs.Context.{fill}
 use Rattle.affine_systems.specs.Outcomes.{Owed}
-use Rattle.tree_rules.specs.declared.findings.Findings.{Findings}
-use Rattle.tree_rules.specs.Classes.{both}
-use Rattle.tree_rules.specs.Findings.{findings_of_body, findings_of_version}
-use Rattle.made_trees.specs.Ids.{next_id}
-use Rattle.made_trees.specs.Names.{named_copies}
+use Rattle.tree_findings.specs.declared.findings.Findings.{Findings}
+use Rattle.tree_findings.specs.Classes.{both}
+use Rattle.tree_findings.specs.Findings.{findings_of_body, findings_of_version}
+use Rattle.tree_edits.specs.Made.Ids.{next_id}
+use Rattle.tree_edits.specs.Made.Names.{named_copies}
 use Rattle.cursor_forward.specs.Shifts.{Edits, edits_of}
 use Rattle.cursor_forward.specs.Proposals.{Plan}
 use Rattle.step_rules.specs.Rule.{Tried, Got, Spot, Simplified, Rule}
 use Rattle.step_rules.specs.Owing.{shape_alone, owed_needs}
-use Rattle.made_trees.specs.Passes.{or_pass}
+use Rattle.tree_edits.specs.Made.Passes.{or_pass}
 use Rattle.step_rules.specs.Answer.{then_try, unless, broken, body_with}
 
 -- what is found of the result as it is made, and of what is needed

@@ -4,15 +4,15 @@ ghost use Rattle.exo_tree.specs.Tree.{block, statements};
 ghost use Rattle.exo_tree.specs.PlainProcedure.{procedure};
 ghost use Rattle.exo_tree.specs.PlainUnit.{program};
 ghost use Rattle.exo_tree.specs.Places.{opened};
-ghost use Rattle.made_trees.specs.Ids as ids;
-ghost use Rattle.made_trees.specs.Passes.{is_alone};
+ghost use Rattle.tree_edits.specs.Made.Ids as ids;
+ghost use Rattle.tree_edits.specs.Made.Passes.{is_alone};
 ghost use Rattle.affine_systems.specs.Outcomes.{plain_obligation};
 ghost use Rattle.cursor_forward.specs.PlainProposal.{plain_proposal};
 ghost use Rattle.step_rules.specs.Answer as answer;
 ghost use Rattle.step_rules.specs.Answer.{proposed, broken};
 ghost use Rattle.step_rules.specs.Lawful.{IsTarget};
 ghost use Rattle.step_rules.specs.Owing as owing;
-ghost use Rattle.tree_rules.specs.Findings as findings;
+ghost use Rattle.tree_findings.specs.Findings as findings;
 ghost use Rattle.step_driver.specs.Outcomes.{Tries, Refuses, IsKept, KeepsMeaning, Moves};
 ghost use Rattle.step_driver.specs.PlainExit.{plain_exit};
 ghost use Rattle.step_driver.specs.PlainTarget.{target, plain_piece};
@@ -29,11 +29,11 @@ use crate::target::{Piece, Target};
 use affine_systems::Obligation;
 use cursor_forward::{Edits, Proposal, StepError};
 use exo_tree::{Block, Path, Proc};
-use made_trees::{Fresh, next_id};
 use std::alloc::{AllocError, Global};
 use step_rules::laws::{carrying_rules_forward, lawful_rules_keep_meaning, proposals_are_kept};
 use tree_edits::alone_at;
-use tree_rules::{Findings, findings_of_body, findings_of_version};
+use tree_edits::made::{Fresh, next_id};
+use tree_findings::{Findings, findings_of_body, findings_of_version};
 
 /// What the step of an operator makes of a procedure at a path. The tables are those of the unit.
 ///

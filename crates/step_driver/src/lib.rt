@@ -1,8 +1,10 @@
-//! Steps: what an operator supplies, and the one driver that answers for all operators.
+//! Steps: what an operator supplies, what it has to show, and the one driver that answers for all
+//! operators.
 #![tactic(auto)]
 
 mod driver;
 mod made;
+pub mod needs;
 mod operator;
 mod owing;
 mod refusing;

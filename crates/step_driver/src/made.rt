@@ -4,15 +4,15 @@ ghost use Rattle.exo_tree.specs.Tree.{block};
 ghost use Rattle.exo_tree.specs.Context.{fill};
 ghost use Rattle.exo_tree.specs.PlainProcedure.{procedure};
 ghost use Rattle.exo_tree.specs.Places.{opened};
-ghost use Rattle.made_trees.specs.Names as names;
-ghost use Rattle.made_trees.specs.Passes as trees;
-ghost use Rattle.made_trees.specs.Passes.{is_alone};
+ghost use Rattle.tree_edits.specs.Made.Names as names;
+ghost use Rattle.tree_edits.specs.Made.Passes as trees;
+ghost use Rattle.tree_edits.specs.Made.Passes.{is_alone};
 ghost use Rattle.step_driver.specs.Spots.{or_nothing};
 
 use crate::target::{Piece, Target};
 use exo_tree::{Block, Name, Proc};
-use made_trees::{named_copies, or_pass};
 use std::alloc::{AllocError, Global};
+use tree_edits::made::{named_copies, or_pass};
 use tree_edits::replaced;
 
 /// What is put in the place of a piece that is there: a `pass` where nothing would stand in its

@@ -3,19 +3,19 @@ ghost use Rattle.std.specs.Prelude.{◌≡◌, [], map, IfOk};
 ghost use Rattle.cursor_forward.specs.Cursors.{Before};
 ghost use Rattle.exo_tree.specs.Tree.{block};
 ghost use Rattle.exo_tree.specs.PlainProcedure.{procedure};
-ghost use Rattle.step_needs.specs.Outcomes.{Tries, Refuses};
-ghost use Rattle.step_needs.specs.PlainNeed.{plain_need};
+ghost use Rattle.step_driver.specs.Needs.Outcomes.{Tries, Refuses};
+ghost use Rattle.step_driver.specs.Needs.PlainNeed.{plain_need};
 ghost use Rattle.step_driver.specs.PlainTarget.{target, plain_piece};
 ghost use Rattle.step_driver.specs.PlainExit.{plain_exit};
 ghost use Rattle.step_driver.specs.Spots.{spot_at, exit_of};
 ghost use Rattle.step_driver.specs.Tables.{HasTables};
 
+use crate::needs::Need;
 use crate::target::{Piece, Target};
 use cursor_forward::{Shifts, Side, StepError};
 use exo_tree::{Block, FieldId, Name, Path, Proc};
-use made_trees::Fresh;
 use std::alloc::{AllocError, Global};
-use step_needs::Need;
+use tree_edits::made::Fresh;
 
 /// How made indices and dimensions are written.
 #[derive(Clone, Copy)]

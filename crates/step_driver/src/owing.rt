@@ -3,18 +3,18 @@ ghost use Rattle.std.specs.Prelude.{◌≡◌, true, map, IfOk};
 ghost use Rattle.affine_systems.specs.Outcomes.{plain_obligation};
 ghost use Rattle.step_rules.specs.Lawful.{IsTarget};
 ghost use Rattle.step_rules.specs.Owing as owing;
-ghost use Rattle.step_needs.specs.Outcomes.{Tries};
+ghost use Rattle.step_driver.specs.Needs.Outcomes.{Tries};
 ghost use Rattle.step_driver.specs.PlainTarget.{target, plain_piece};
 ghost use Rattle.step_driver.specs.Spots.{spot_at};
 ghost use Rattle.step_driver.specs.Tables.{HasTables};
 
+use crate::needs::{findings_of_needs, owed_needs};
 use crate::operator::Operator;
 use crate::target::{Piece, Target};
 use affine_systems::Obligation;
 use cursor_forward::StepError;
 use std::alloc::{AllocError, Global};
-use step_needs::{findings_of_needs, owed_needs};
-use tree_rules::Findings;
+use tree_findings::Findings;
 
 /// What is found of what an operator needs.
 pub(crate) fn needed<O: Operator>(

@@ -1,10 +1,10 @@
 //! Refusals by what is found in a result.
 ghost use Rattle.step_rules.specs.Answer.{broken};
 ghost use Rattle.step_rules.specs.Owing.{shape_alone};
-ghost use Rattle.step_needs.specs.Outcomes.{Refuses};
+ghost use Rattle.step_driver.specs.Needs.Outcomes.{Refuses};
 
 use cursor_forward::StepError;
-use tree_rules::Findings;
+use tree_findings::Findings;
 
 /// The first class that is broken, in the order of refusals.
 pub(crate) fn refused(found: Findings) -> Result<(), StepError>

@@ -9,11 +9,12 @@ use Rattle.exo_meaning.specs.Units.{Scope, ControlName, with_name, is_empty, is_
 use Rattle.exo_meaning.specs.Units.{with_fields}
 use Rattle.meaning_laws.proofs.Substitute.{and_parts}
 use Rattle.place_laws.specs.Scope.Holes.{roots_at}
-use Rattle.tree_rules.specs.declared.findings.Findings.{Findings}
-use Rattle.tree_rules.specs.Classes.{fine, both, rule, limit, all_kept}
-use Rattle.tree_rules.specs.Findings.{found_in_binder, findings_of_control, findings_of_condition}
-use Rattle.tree_rules.specs.Findings.{findings_of_statement, findings_of_block, scope_behind}
-use Rattle.made_trees.specs.Passes.{or_pass, is_alone}
+use Rattle.tree_findings.specs.declared.findings.Findings.{Findings}
+use Rattle.tree_findings.specs.Classes.{fine, both, rule, limit, all_kept}
+use Rattle.tree_findings.specs.Findings.{found_in_binder, findings_of_control}
+use Rattle.tree_findings.specs.Findings.{findings_of_condition}
+use Rattle.tree_findings.specs.Findings.{findings_of_statement, findings_of_block, scope_behind}
+use Rattle.tree_edits.specs.Made.Passes.{or_pass, is_alone}
 use Rattle.step_rules.specs.Owing.{shape_alone}
 use Rattle.step_rules.specs.Lawful.{found_scope_at}
 use Rattle.step_rules.proofs.Found.{and_true}

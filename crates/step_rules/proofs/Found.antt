@@ -1,8 +1,8 @@
 -- Findings of two.
 use Rattle.std.proofs.Common.{◌≡◌, Bool, true, ◌&&◌}
 use Rattle.meaning_laws.proofs.Substitute.{and_parts}
-use Rattle.tree_rules.specs.declared.findings.Findings.{Findings}
-use Rattle.tree_rules.specs.Classes.{both, all_kept}
+use Rattle.tree_findings.specs.declared.findings.Findings.{Findings}
+use Rattle.tree_findings.specs.Classes.{both, all_kept}
 
 pub and_true : {a b : Bool} → a ≡ true → b ≡ true → (a && b) ≡ true
 and_true p q = cc

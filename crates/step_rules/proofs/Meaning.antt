@@ -16,14 +16,14 @@ use Rattle.exo_meaning.specs.Units.{is_empty, is_short, are_distinct}
 use Rattle.exo_meaning.specs.Binders.{binders}
 use Rattle.place_laws.specs.Scope.Roots.{own_roots_at}
 use Rattle.place_laws.proofs.OfScope.WellAtPlace.{well_at_place}
-use Rattle.tree_rules.specs.Classes.{both, rule, limit, all_kept}
-use Rattle.tree_rules.specs.Findings.{findings_of_block, findings_of_body, findings_of_version}
-use Rattle.tree_rules.specs.Findings.{is_small_body}
-use Rattle.made_trees.specs.Passes.{or_pass}
+use Rattle.tree_findings.specs.Classes.{both, rule, limit, all_kept}
+use Rattle.tree_findings.specs.Findings.{findings_of_block, findings_of_body, findings_of_version}
+use Rattle.tree_findings.specs.Findings.{is_small_body}
+use Rattle.tree_edits.specs.Made.Passes.{or_pass}
 use Rattle.tree_laws.specs.Findings.Versions.{with_version}
 use Rattle.tree_laws.proofs.OfFindings.Versions.{procedure_law}
 use Rattle.tree_laws.proofs.OfFindings.Kept.{found_is_procedure, kept_law}
-use Rattle.made_trees.specs.Ids.{above_all, next_id}
+use Rattle.tree_edits.specs.Made.Ids.{above_all, next_id}
 use Rattle.tree_laws.specs.Made.Laws.{NamesAlone}
 use Rattle.cursor_forward.specs.Forwards.{Forwards, MovesLaw}
 use Rattle.cursor_forward.specs.Shifts.{move_of}

@@ -4,10 +4,10 @@ use Rattle.std.proofs.Common.{if◌then◌else◌}
 use Rattle.exo_tree.specs.Tree.{Block}
 use Rattle.exo_tree.specs.Places.{Path, Opened, opened}
 use Rattle.affine_systems.specs.Outcomes.{Owed}
-use Rattle.tree_rules.specs.declared.findings.Findings.{Findings}
-use Rattle.tree_rules.specs.Classes.{both, all_kept}
-use Rattle.tree_rules.specs.Findings.{findings_of_body, findings_of_version}
-use Rattle.made_trees.specs.Ids.{next_id}
+use Rattle.tree_findings.specs.declared.findings.Findings.{Findings}
+use Rattle.tree_findings.specs.Classes.{both, all_kept}
+use Rattle.tree_findings.specs.Findings.{findings_of_body, findings_of_version}
+use Rattle.tree_edits.specs.Made.Ids.{next_id}
 use Rattle.cursor_forward.specs.Causes.{Cause, WrongShape, OutOfScope, NameTaken, LimitPassed}
 use Rattle.cursor_forward.specs.Proposals.{Plan}
 use Rattle.step_rules.specs.Rule.{Tried, Got, Not, Target, Piece, Spot, AsMade, Simplified, Rule}

@@ -21,7 +21,7 @@ use Rattle.place_laws.specs.Scope.Bare.{bare}
 use Rattle.place_laws.proofs.OfScope.Bare.{same_but_for_names}
 use Rattle.place_laws.proofs.OfScope.Roots.{names_have_roots}
 use Rattle.config_laws.proofs.OfLive.LiveFits.{live_fits}
-use Rattle.made_trees.specs.Passes.{or_pass, is_alone}
+use Rattle.tree_edits.specs.Made.Passes.{or_pass, is_alone}
 use Rattle.exo_meaning.specs.Units.{field_kind}
 use Rattle.step_rules.specs.Rule.{Spot}
 use Rattle.step_rules.specs.Lawful.{IsSpot, Stands, callees_for, around, old, world_of}

@@ -13,11 +13,11 @@ use Rattle.meaning_laws.proofs.Substitute.{and_parts}
 use Rattle.affine_forms.specs.Forms.{is_affine}
 use Rattle.affine_forms.specs.Formulas.{is_affine_condition}
 use Rattle.effect_laws.specs.Words.{allowed_in}
-use Rattle.tree_rules.specs.declared.findings.Findings.{Findings}
-use Rattle.tree_rules.specs.Classes.{both, rule, limit, use_of}
-use Rattle.tree_rules.specs.Sizes.{is_small_condition}
-use Rattle.tree_rules.specs.Findings.{found_in_divisor, found_in_control, found_in_condition}
-use Rattle.tree_rules.specs.Findings.{findings_of_condition}
+use Rattle.tree_findings.specs.declared.findings.Findings.{Findings}
+use Rattle.tree_findings.specs.Classes.{both, rule, limit, use_of}
+use Rattle.tree_findings.specs.Sizes.{is_small_condition}
+use Rattle.tree_findings.specs.Findings.{found_in_divisor, found_in_control, found_in_condition}
+use Rattle.tree_findings.specs.Findings.{findings_of_condition}
 use Rattle.step_rules.proofs.Found.{and_true}
 use Rattle.step_rules.proofs.Formed.{HasShape, shape_parts}
 

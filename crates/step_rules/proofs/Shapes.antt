@@ -3,7 +3,7 @@ use Rattle.std.proofs.Common.{◌≡◌, Bool, true, false, ◌&&◌, Option, So
 use Rattle.std.proofs.Common.{subst, if◌then◌else◌}
 use Rattle.exo_tree.specs.Tree.{Statement, Pass, Block, end, next}
 use Rattle.exo_tree.specs.Context.{Context, Here}
-use Rattle.made_trees.specs.Passes.{or_pass, is_alone}
+use Rattle.tree_edits.specs.Made.Passes.{or_pass, is_alone}
 use Rattle.cursor_forward.specs.Forwards.{bone, more, none, Carries}
 use Rattle.cursor_forward.specs.Shifts.{stays}
 use Rattle.step_rules.specs.Rule.{Got}

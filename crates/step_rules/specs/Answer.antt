@@ -4,12 +4,12 @@ use Rattle.exo_tree.specs.Tree.{Block, statements, Procedure}
 use Rattle.exo_tree.specs.Context.{fill}
 use Rattle.exo_tree.specs.Places.{Path, Opened, opened}
 use Rattle.affine_systems.specs.Outcomes.{Owed}
-use Rattle.tree_rules.specs.declared.findings.Findings.{Findings}
-use Rattle.tree_rules.specs.Classes.{both, first_broken}
-use Rattle.tree_rules.specs.Findings.{findings_of_body, findings_of_version}
-use Rattle.made_trees.specs.Ids.{next_id}
-use Rattle.made_trees.specs.Names.{named_copies}
-use Rattle.made_trees.specs.Passes.{or_pass}
+use Rattle.tree_findings.specs.declared.findings.Findings.{Findings}
+use Rattle.tree_findings.specs.Classes.{both, first_broken}
+use Rattle.tree_findings.specs.Findings.{findings_of_body, findings_of_version}
+use Rattle.tree_edits.specs.Made.Ids.{next_id}
+use Rattle.tree_edits.specs.Made.Names.{named_copies}
+use Rattle.tree_edits.specs.Made.Passes.{or_pass}
 use Rattle.cursor_forward.specs.Causes.{Cause, WrongShape, OutOfScope, NameTaken, LimitPassed}
 use Rattle.cursor_forward.specs.Shifts.{edits_of}
 use Rattle.cursor_forward.specs.Proposals.{Plan}

@@ -25,11 +25,11 @@ use Rattle.place_laws.specs.Scope.Bare.{bare}
 use Rattle.place_laws.specs.Scope.Roots.{own_roots_at}
 use Rattle.place_laws.specs.Scope.WellAtPlace.{IsWellAt}
 use Rattle.config_laws.specs.Live.LiveFits.{MayReplaceLive, LiveAtEnd}
-use Rattle.tree_rules.specs.Classes.{all_kept}
-use Rattle.tree_rules.specs.Findings.{scope_behind, findings_of_block}
-use Rattle.made_trees.specs.Ids.{next_id}
-use Rattle.made_trees.specs.Names.{named_copies}
-use Rattle.made_trees.specs.Passes.{or_pass}
+use Rattle.tree_findings.specs.Classes.{all_kept}
+use Rattle.tree_findings.specs.Findings.{scope_behind, findings_of_block}
+use Rattle.tree_edits.specs.Made.Ids.{next_id}
+use Rattle.tree_edits.specs.Made.Names.{named_copies}
+use Rattle.tree_edits.specs.Made.Passes.{or_pass}
 use Rattle.config_laws.specs.Differing.{VersionsStand}
 use Rattle.config_laws.specs.FieldRule as config
 use Rattle.config_laws.specs.FieldRule.{fields_at_end}

@@ -6,7 +6,7 @@ use Rattle.exo_meaning.specs.Run.{program_world}
 use Rattle.exo_meaning.specs.Orders.{Each}
 use Rattle.affine_systems.specs.Outcomes.{Owed}
 use Rattle.exo_meaning.specs.Units.{IsUnit}
-use Rattle.tree_rules.specs.Classes.{all_kept}
+use Rattle.tree_findings.specs.Classes.{all_kept}
 use Rattle.tree_laws.specs.Findings.Versions.{has_room, with_version}
 use Rattle.cursor_forward.specs.Forwards.{Forwards}
 use Rattle.cursor_forward.specs.Shifts.{move_of}

@@ -21,9 +21,9 @@ use Rattle.effect_laws.specs.Words.{known_at_place, are_within, unless_refused}
 use Rattle.effect_laws.specs.Words.{is_low, Header}
 use Rattle.effect_laws.specs.Words.{Fault, WideForm, ManyCases, LargeSystem, ManySystems}
 use Rattle.effect_laws.specs.Words.{Listing, Lists, Refuses}
-use Rattle.tree_rules.specs.declared.findings.Findings.{Findings}
-use Rattle.tree_rules.specs.Classes.{fine, all_of}
-use Rattle.tree_rules.specs.Findings.{findings_of_condition}
+use Rattle.tree_findings.specs.declared.findings.Findings.{Findings}
+use Rattle.tree_findings.specs.Classes.{fine, all_of}
+use Rattle.tree_findings.specs.Findings.{findings_of_condition}
 use Rattle.cursor_forward.specs.Causes.{FormFault, WideNumber, TooManyCases, SystemTooLarge}
 use Rattle.cursor_forward.specs.Causes.{TooManySystems, Form}
 use Rattle.step_rules.specs.Rule.{Tried, Got, Not, Target, Need, Says, Apart}

@@ -4,7 +4,7 @@ use Rattle.exo_tree.specs.Tree.{Block}
 use Rattle.exo_tree.specs.Context.{fill}
 use Rattle.exo_meaning.specs.Inputs.{Refines}
 use Rattle.place_laws.specs.Scope.Bare.{bare}
-use Rattle.made_trees.specs.Passes.{or_pass}
+use Rattle.tree_edits.specs.Made.Passes.{or_pass}
 use Rattle.step_rules.specs.Rule.{Spot}
 use Rattle.step_rules.specs.Lawful.{IsSpot, around, world_of, with_body, Replaces}
 

@@ -6,7 +6,7 @@ ghost use Rattle.meaning_laws.specs.Sound as sound;
 ghost use Rattle.place_laws.specs.Scope.Scopes.{top_binders};
 
 use exo_tree::{Block, Id, Stmt};
-use tree_mentions::Names;
+use tree_uses::mentions::Names;
 
 /// One name.
 #[derive(Clone, Copy)]

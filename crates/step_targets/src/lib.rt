@@ -1,5 +1,5 @@
-//! The kinds of what steps stand on; what operators find at their places, and what they make of it: loops, blocks that are
-//! made, paths, shifts, and what is owed.
+//! The kinds of what steps stand on; what operators find at their places, and what they make of
+//! it: loops, blocks that are made, paths, shifts, and what is owed.
 #![tactic(auto)]
 
 mod bounds;
@@ -13,7 +13,7 @@ mod places;
 mod ruled;
 mod scopes;
 
-pub use bounds::{InBound, is_over_variables};
+pub use bounds::InBound;
 pub use left::{Alone, Left, binds};
 pub use loops::{LoopAt, copies, loop_at, loop_in, loop_of, only_loop, only_statement};
 pub use moves::{all_moved, alone_to, one_shift, range_to};

@@ -14,7 +14,7 @@ ghost use Rattle.step_driver.specs.PlainTarget.{target, plain_piece};
 ghost use Rattle.step_driver.specs.Spots.{spot_at};
 ghost use Rattle.step_targets.specs.PlainLoop.{plain_loop};
 
-use crate::bounds::is_over_variables;
+use affine_places::is_over_variables;
 use exo_tree::{Binder, Block, Ctrl, Stmt};
 use std::alloc::{AllocError, Global};
 use step_driver::{Piece, Target};

@@ -6,7 +6,7 @@ ghost use Rattle.exo_tree.specs.Places.{Path};
 ghost use Rattle.cursor_forward.specs.Shifts.{Shift};
 ghost use Rattle.place_laws.specs.Order.TurnsOfTwo.{Loop};
 ghost use Rattle.step_rules.specs.Rule as rules;
-ghost use Rattle.step_needs.specs.PlainNeed.{plain_need};
+ghost use Rattle.step_driver.specs.Needs.PlainNeed.{plain_need};
 ghost use Rattle.step_driver.specs.PlainTarget.{target, plain_piece};
 ghost use Rattle.step_driver.specs.Spots.{spot_at};
 ghost use Rattle.step_targets.specs.PlainLoop.{plain_loop};
@@ -16,10 +16,10 @@ use crate::loops::{LoopAt, loop_at};
 use crate::ruled::Ruled;
 use cursor_forward::{Shifts, StepError};
 use exo_tree::{Block, Name, Path, Proc};
-use made_trees::Fresh;
 use std::alloc::{AllocError, Global};
+use step_driver::needs::Need;
 use step_driver::{Exit, Operator, Piece, Target, Writing};
-use step_needs::Need;
+use tree_edits::made::Fresh;
 
 /// A step on one loop: what it makes of it, what it needs, and where the loop's statements go.
 pub trait OnLoop: Ruled {

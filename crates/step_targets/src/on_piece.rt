@@ -1,8 +1,8 @@
 //! Steps on statements that they look at by themselves.
 ghost use Rattle.std.specs.Prelude.{◌≡◌, map, IfOk};
 ghost use Rattle.exo_tree.specs.Tree.{block};
-ghost use Rattle.step_needs.specs.Outcomes.{Tries};
-ghost use Rattle.step_needs.specs.PlainNeed.{plain_need};
+ghost use Rattle.step_driver.specs.Needs.Outcomes.{Tries};
+ghost use Rattle.step_driver.specs.Needs.PlainNeed.{plain_need};
 ghost use Rattle.step_driver.specs.PlainTarget.{target, plain_piece};
 ghost use Rattle.step_driver.specs.PlainWriting.{writing};
 ghost use Rattle.step_driver.specs.Spots.{spot_at};
@@ -11,10 +11,10 @@ ghost use Rattle.step_driver.specs.Tables.{HasTables};
 use crate::ruled::Ruled;
 use cursor_forward::{Shifts, StepError};
 use exo_tree::{Block, Name, Path, Proc};
-use made_trees::Fresh;
 use std::alloc::{AllocError, Global};
+use step_driver::needs::Need;
 use step_driver::{Exit, Operator, Piece, Target, Writing};
-use step_needs::Need;
+use tree_edits::made::Fresh;
 
 /// A step on a piece: which one, what it makes of it, what it needs, and where its statements go. A
 /// method is asked for any piece, also for one of which the statements are not there.

@@ -6,13 +6,14 @@ ghost use Rattle.exo_tree.specs.PlainControl.{control};
 ghost use Rattle.meaning_laws.specs.Facts as facts;
 ghost use Rattle.effect_laws.specs.Fits as fits;
 ghost use Rattle.step_rules.specs.Rule as rule;
-ghost use Rattle.step_needs.specs.PlainNeed.{plain_fact, plain_header, plain_conflict, plain_need};
+ghost use Rattle.step_driver.specs.Needs.PlainNeed.{plain_fact, plain_header, plain_conflict};
+ghost use Rattle.step_driver.specs.Needs.PlainNeed.{plain_need};
 ghost use Rattle.step_targets.specs.PlainLoop.{plain_loop};
 
 use crate::loops::{LoopAt, copies};
 use exo_tree::{Block, Cond, Ctrl, Path};
 use std::alloc::{AllocError, Global};
-use step_needs::{Conflict, Fact, Header, Need};
+use step_driver::needs::{Conflict, Fact, Header, Need};
 
 /// One fact, at a place.
 pub fn single_need(alloc: Global, at: &Path, fact: Fact) -> Result<Vec<Need>, AllocError>

@@ -3,7 +3,7 @@ ghost use Rattle.std.specs.Prelude.{◌≡◌};
 ghost use Rattle.std.proofs.Common.{◌∙◌, ap, sym};
 ghost use Rattle.step_rules.specs.Rule.{Rule};
 ghost use Rattle.step_rules.specs.Lawful.{IsLawful, IsCarrying};
-ghost use Rattle.step_needs.specs.Outcomes.{Refuses};
+ghost use Rattle.step_driver.specs.Needs.Outcomes.{Refuses};
 ghost use Rattle.step_driver.specs.PlainTarget.{target, plain_piece};
 ghost use Rattle.step_driver.specs.Spots.{spot_at};
 ghost use Rattle.step_driver.specs.Tables.{HasTables};

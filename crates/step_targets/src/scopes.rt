@@ -4,13 +4,13 @@ ghost use Rattle.exo_meaning.specs.Units.{sort_in};
 ghost use Rattle.step_driver.specs.PlainTarget.{target, plain_piece};
 ghost use Rattle.step_driver.specs.Spots.{spot_at};
 ghost use Rattle.step_rules.specs.Lawful.{scope_here};
-ghost use Rattle.tree_rules.specs.Walked.{place_scope};
+ghost use Rattle.tree_findings.specs.Walked.{place_scope};
 
 use exo_tree::Id;
 use std::alloc::{AllocError, Global};
 use step_driver::{Piece, Target};
-use tree_mentions::Names;
-use tree_rules::PlaceScope;
+use tree_findings::PlaceScope;
+use tree_uses::mentions::Names;
 
 /// The names in scope before a piece; where its statements are not there, those of the parameters.
 #[tactic(auto, using(crate::proofs::Scoped::scope_same))]

@@ -6,7 +6,7 @@ use Rattle.text_phrases.specs.Answers.{Refuses}
 use Rattle.text_phrases.specs.declared.Refusal.{Refusal}
 use Rattle.text_phrases.specs.declared.Refusal.TheVariants.{Memory, Syntax, TooDeep, TooLong, TooLarge}
 use Rattle.text_phrases.proofs.Phrases.{keeps_all}
-use Rattle.text_front.specs.Values.{IsShortName}
+use Rattle.text_expressions.specs.Front.Values.{IsShortName}
 use Rattle.text_expressions.specs.Expression.{Tree, number, truth, variable, access, field, stride, relu, select, negative, parens, binary, Trees, end, next, Stands, HasIndex, AllStand, spelling, spelling_list, FollowsOperand, operand, Within, HasPlace, depth, deepest, nodes, sign}
 use Rattle.text_expressions.specs.Rooms.{IsFull}
 use Rattle.text_lexer.specs.declared.token.Token.{Token}

@@ -5,7 +5,7 @@ use Rattle.text_phrases.specs.Limits.{Limits, in_size, Keeps}
 use Rattle.text_phrases.specs.Sequence.{AllFit}
 use Rattle.text_phrases.specs.Commas.{spell_more, ListingFits, spell_listing}
 use Rattle.text_phrases.proofs.Phrases.{keeps_map, keeps_both, keeps_all}
-use Rattle.text_front.specs.Values.{IsShortName}
+use Rattle.text_expressions.specs.Front.Values.{IsShortName}
 use Rattle.text_expressions.specs.Expression.{Tree, access, Trees, end, next, trees, Stands, AllStand, spelling, spelling_list, spelling_more, operand, Within, depth, deepest, count, AreShort, AreSmall, control_room, FewDimensions}
 use Rattle.text_expressions.specs.declared.expression.Room.{Room}
 use Rattle.text_lexer.specs.declared.token.Token.TheVariants.{Sign}

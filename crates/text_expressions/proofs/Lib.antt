@@ -7,3 +7,4 @@ pub mod Indices
 pub mod Productions
 pub mod Made
 pub mod Returns
+pub mod OfFront

@@ -8,7 +8,7 @@ use Rattle.text_phrases.proofs.Phrases.{keeps_map, keeps_both, keeps_all}
 use Rattle.text_phrases.proofs.Sequences.{Back, Step, JointBy}
 use Rattle.text_phrases.proofs.Commas.{CommaApart}
 use Rattle.text_phrases.proofs.Joints.{Joint}
-use Rattle.text_front.specs.Values.{IsShortName, name, literal}
+use Rattle.text_expressions.specs.Front.Values.{IsShortName, name, literal}
 use Rattle.text_expressions.specs.Expression.{Tree, number, access, field, stride, relu, select, negative, parens, trees, spelling, spelling_list, FollowsOperand, operand, ended_by, Within, under, HasPlace, depth, nodes, IsShort, IsSmall, indices, control_room, EndsList}
 use Rattle.text_lexer.specs.declared.token.Token.{Token}
 use Rattle.text_lexer.specs.declared.token.Token.TheVariants.{Name, Word, Sign}

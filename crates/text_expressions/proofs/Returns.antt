@@ -6,7 +6,7 @@ use Rattle.text_phrases.specs.Answers.{Refuses}
 use Rattle.text_phrases.specs.declared.Refusal.{Refusal}
 use Rattle.text_phrases.specs.declared.Refusal.TheVariants.{Memory, Syntax, TooDeep, TooLong, TooLarge}
 use Rattle.text_phrases.proofs.Exits.{refuses_along}
-use Rattle.text_front.specs.Values.{IsShortName}
+use Rattle.text_expressions.specs.Front.Values.{IsShortName}
 use Rattle.text_expressions.specs.Expression.{Tree, number, truth, variable, access, binary, operand, ended_by, level_of, left_level, sign, Stands, NoSign, HasPlace, under, depth, deepest, nodes, trees, indices, control_room, FewDimensions, EndsList}
 use Rattle.text_expressions.specs.Rooms.{IsFull, Right}
 use Rattle.text_expressions.specs.Views.{tree_of, IsMeasured}

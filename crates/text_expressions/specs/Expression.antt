@@ -5,7 +5,7 @@ use Rattle.text_phrases.specs.Limits.{Limits, Keeps}
 use Rattle.text_phrases.specs.Phrase.{first, Phrase}
 use Rattle.text_phrases.specs.Sequence.{exactly, then}
 use Rattle.text_phrases.specs.Commas.{listing}
-use Rattle.text_front.specs.Values.{IsShortName, IsValue}
+use Rattle.text_expressions.specs.Front.Values.{IsShortName, IsValue}
 use Rattle.text_expressions.specs.declared.source.Operator.{Operator}
 use Rattle.text_expressions.specs.declared.source.Operator.TheVariants.{Or, And, Lt, Le, Gt, Ge, Eq}
 use Rattle.text_expressions.specs.declared.source.Operator.TheVariants.{Add, Sub, Mul, Div, Mod}

@@ -3,7 +3,7 @@
 ghost use Rattle.std.specs.Prelude.{◌≡◌, ◌≢◌, ◌≤◌, ◌<◌, ◌+◌, ◌-◌, ◌⊎◌, Some, [], ◌∷◌, ℕ, List, length, map, IfOk, MatchResult, MatchOption};
 ghost use Rattle.text_phrases.specs.Phrase.{first, Taken, Refused};
 ghost use Rattle.text_phrases.specs.Answers.{Reads};
-ghost use Rattle.text_front.specs.Values.{IsShortName};
+ghost use Rattle.text_expressions.specs.Front.Values.{IsShortName};
 ghost use Rattle.text_expressions.specs.Expression.{Tree, operand, relu, select, negative, parens};
 ghost use Rattle.text_expressions.specs.Expression.{access, binary, trees, HasPlace, ended_by};
 ghost use Rattle.text_expressions.specs.Expression.{FollowsOperand, level_of, joins, joins_by_sign};
@@ -14,9 +14,9 @@ ghost use Rattle.text_expressions.specs.Chain.{Begun};
 ghost use Rattle.text_expressions.specs.Rooms.{IsFull, Right};
 ghost use Rattle.text_lexer.specs.declared.token.Token.{Token};
 
+use crate::front::{Fixed, behind, expect_all, is_short, read_literal, read_name};
 use crate::source::{Operator, SourceExpr};
 use std::alloc::{AllocError, Global};
-use text_front::{Fixed, behind, expect_all, is_short, read_literal, read_name};
 use text_lexer::text::Text;
 use text_lexer::token::{Literal, Sign, Token, Word, next};
 use text_phrases::Refusal;

@@ -2,6 +2,5 @@
 #![tactic(auto)]
 
 pub mod expression;
+pub mod front;
 pub mod source;
-
-pub use text_front as front;

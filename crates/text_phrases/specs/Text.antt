@@ -20,7 +20,12 @@ pub record FaultAt {A T : Type 0} (kind : Phrase A T) (cause : Cause) (tokens : 
   pub count : length rest ≡ last
   pub begins : Begins kind before
   pub goes : Goes cause kind before rest
-  pub none : (other : T) (more : List A) → kind.Fits (passed cause) other → first rest ≡ first more → before ++ more ≡ kind.spell other → ⊥
+  pub none
+      : (other : T) (more : List A)
+      → kind.Fits (passed cause) other
+      → first rest ≡ first more
+      → before ++ more ≡ kind.spell other
+      → ⊥
 
 abbrev pub Faults : {A T : Type 0} → Phrase A T → List A → Refusal → Type 0
 Faults kind tokens Memory = Unit {0}

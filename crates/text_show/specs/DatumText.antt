@@ -26,4 +26,7 @@ module _ (w : Words) where
   datum_text (Minus a b) = between (datum_in_place SUM a (datum_text a)) (codes "-") (datum_in_place PRODUCT b (datum_text b))
   datum_text (Times a b) = between (datum_in_place PRODUCT a (datum_text a)) (codes "*") (datum_in_place UNARY b (datum_text b))
   datum_text (Relu a) = codes "relu(" ++ datum_text a ++ codes ")"
-  datum_text (Select a b c d) = codes "select(" ++ listed (datum_text a ∷ datum_text b ∷ datum_text c ∷ datum_text d ∷ []) ++ codes ")"
+  datum_text (Select a b c d)
+      = codes "select("
+      ++ listed (datum_text a ∷ datum_text b ∷ datum_text c ∷ datum_text d ∷ [])
+      ++ codes ")"

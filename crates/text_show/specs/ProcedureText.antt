@@ -1,8 +1,9 @@
 -- The text of procedures.
 use Rattle.std.specs.Prelude.{ℕ, [], ◌++◌, Option, Some, None, map, flat_map, slice_get, codes}
 use Rattle.exo_tree.specs.Tree.{Condition, ParamKind, ControlParam, TensorParam, WindowParam, Param, Procedure, Program}
+use Rattle.exo_tree.specs.Named.{cell_word}
 use Rattle.text_show.specs.Layout.{Text, listed, line, quoted}
-use Rattle.text_show.specs.Words.{Words, words_of, cell_word, kind_word}
+use Rattle.text_show.specs.Words.{Words, words_of, kind_word}
 use Rattle.text_show.specs.ControlText.{condition_text}
 use Rattle.text_show.specs.StatementText.{extent_text, block_text}
 

@@ -3,8 +3,9 @@ use Rattle.std.specs.Prelude.{ℕ, List, [], ◌++◌, ◌==◌, map, if◌then�
 use Rattle.exo_tree.specs.Tree.{Control, Argument, ControlArg, ConditionArg, Whole, Window}
 use Rattle.exo_tree.specs.Tree.{Statement, Assign, Reduce, Config, Pass, If, For, Alloc, View, Call}
 use Rattle.exo_tree.specs.Tree.{Block, end, next}
+use Rattle.exo_tree.specs.Named.{cell_word}
 use Rattle.text_show.specs.Layout.{Text, listed, line, deeper, between, loop_text}
-use Rattle.text_show.specs.Words.{Words, cell_word}
+use Rattle.text_show.specs.Words.{Words}
 use Rattle.text_show.specs.ControlText.{control_text, condition_text, indices_text, access_text}
 use Rattle.text_show.specs.ControlText.{window_text}
 use Rattle.text_show.specs.DatumText.{datum_text}

@@ -1,6 +1,6 @@
 -- What the numbers in a tree are called.
 use Rattle.std.specs.Prelude.{ℕ, List, Option, Some, None, ◌++◌, slice_get, codes}
-use Rattle.exo_tree.specs.Tree.{Cell, I8, I16, I32, Ui8, Kind, Size, Index, Truth, Stride}
+use Rattle.exo_tree.specs.Tree.{Kind, Size, Index, Truth, Stride}
 use Rattle.exo_tree.specs.Tree.{ConfigField, MemoryKind, Procedure, Program}
 use Rattle.text_show.specs.Layout.{Text}
 use Rattle.text_show.specs.Names.{unknown, names_of}
@@ -38,12 +38,6 @@ words_with program names = record {
 -- the words of a procedure of a program
 abbrev pub words_of : Program → Procedure → Words
 words_of program p = words_with program (names_of p)
-
-abbrev pub cell_word : Cell → Text
-cell_word I8 = codes "i8"
-cell_word I16 = codes "i16"
-cell_word I32 = codes "i32"
-cell_word Ui8 = codes "ui8"
 
 abbrev pub kind_word : Kind → Text
 kind_word Size = codes "size"

@@ -1,7 +1,7 @@
 //! The source text of procedures.
-ghost use Rattle.std.specs.Prelude.{◌≡◌, [], ◌++◌, map, flat_map, option_map, codes, OnOk, IfOk, string_bytes};
+ghost use Rattle.std.specs.Prelude.{◌≡◌, [], ◌++◌, map, flat_map, OnOk, IfOk, string_bytes};
 ghost use Rattle.exo_tree.specs.Tree as tree;
-ghost use Rattle.exo_tree.specs.PlainBinder.{cell_type, control_kind};
+ghost use Rattle.exo_tree.specs.PlainBinder.{control_kind};
 ghost use Rattle.exo_tree.specs.PlainControl.{condition};
 ghost use Rattle.exo_tree.specs.PlainParam.{parameter_kind, parameter};
 ghost use Rattle.exo_tree.specs.PlainProcedure.{procedure};
@@ -12,12 +12,10 @@ ghost use Rattle.text_show.specs.ProcedureText.{marker_text, type_text, param_te
 ghost use Rattle.text_show.specs.Seen.{words_in};
 
 use crate::control::put_condition;
-use crate::statement::{cell_word, put_block, put_extent};
+use crate::statement::{put_block, put_extent};
 use crate::text::{put_line, put_quoted};
 use crate::words::Words;
-use exo_tree::{
-    Cell, Cond, Indices, Kind, MemId, Param, ParamKind, Params, Proc, ProcId, Text, Unit,
-};
+use exo_tree::{Cond, Kind, Param, ParamKind, Params, Proc, ProcId, Text, Unit};
 use std::alloc::{AllocError, Global};
 
 /// The word of a control type.
@@ -39,12 +37,12 @@ fn put_type(out: &mut String, words: &Words, kind: &ParamKind) -> Result<(), All
     match kind {
         ParamKind::Ctrl(kind) => out.push_str(kind_word(*kind)),
         ParamKind::Tensor(cell, dims, m) => {
-            out.push_str(cell_word(*cell))?;
+            out.push_str(cell.word())?;
             put_extent(out, words, dims, *m)
         }
         ParamKind::Window(cell, dims, m) => {
             out.push_str("[")?;
-            out.push_str(cell_word(*cell))?;
+            out.push_str(cell.word())?;
             out.push_str("]")?;
             put_extent(out, words, dims, *m)
         }

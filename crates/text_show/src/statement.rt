@@ -7,7 +7,6 @@ ghost use Rattle.exo_tree.specs.PlainBinder.{binding, cell_type};
 ghost use Rattle.exo_tree.specs.PlainControl.{control};
 ghost use Rattle.exo_tree.specs.PlainStatement.{statement};
 ghost use Rattle.text_show.specs.Layout.{listed, loop_text};
-ghost use Rattle.text_show.specs.Words.{cell_word};
 ghost use Rattle.text_show.specs.ControlText.{control_text};
 ghost use Rattle.text_show.specs.StatementText.{or_else, argument_text, memory_text, extent_text, head_text, block_text, inner_text};
 ghost use Rattle.text_show.specs.Seen.{words_in};
@@ -28,18 +27,6 @@ pub fn put_argument(out: &mut String, words: &Words, a: &Arg) -> Result<(), Allo
         Arg::Cond(c) => put_condition(out, words, c),
         Arg::Whole(x) => words.put_name(out, *x),
         Arg::Window(x, at) => put_window(out, words, *x, at),
-    }
-}
-
-/// The word of a cell type.
-pub(crate) fn cell_word(cell: Cell) -> &'static str
-    ensures { result.now ≡ cell_word (cell_type cell) }
-{
-    match cell {
-        Cell::I8 => "i8",
-        Cell::I16 => "i16",
-        Cell::I32 => "i32",
-        Cell::Ui8 => "ui8",
     }
 }
 
@@ -84,7 +71,7 @@ fn put_alloc(
 {
     out.push_str(b.name.as_str())?;
     out.push_str(" : ")?;
-    out.push_str(cell_word(cell))?;
+    out.push_str(cell.word())?;
     put_extent(out, words, dims, m)
 }
 

@@ -8,7 +8,7 @@ use Rattle.exo_tree.specs.Places.{Branch, Main, Else, Step, Path, Opened, parted
 use Rattle.exo_tree.specs.Branches.{branch_of}
 use Rattle.exo_tree.proofs.Openings.{around_by, with_rest}
 use Rattle.exo_meaning.specs.Units.{is_empty}
-use Rattle.made_trees.specs.Passes.{has_nothing, is_alone}
+use Rattle.tree_edits.specs.Made.Passes.{has_nothing, is_alone}
 
 abbrev tested : Bool → Option Opened → Option Bool
 tested first x = option_map (λ (o : Opened). has_nothing first o.around) x

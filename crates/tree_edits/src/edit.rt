@@ -16,7 +16,7 @@ ghost use Rattle.exo_tree.specs.PlainBinder.{binding};
 ghost use Rattle.exo_tree.specs.PlainControl.{control, condition};
 ghost use Rattle.exo_tree.specs.PlainPlace.{branch_taken, step_taken};
 ghost use Rattle.exo_tree.specs.PlainStatement.{statement};
-ghost use Rattle.made_trees.specs.Passes.{is_alone};
+ghost use Rattle.tree_edits.specs.Made.Passes.{is_alone};
 ghost use Rattle.tree_edits.specs.Entries.{beside, entries_in};
 
 use crate::steps::Steps;
@@ -153,7 +153,13 @@ fn same<L: Ledger>(alloc: Global, b: &Block, made: &mut Steps<L>) -> Result<Bloc
 }
 
 /// A loop with a copied head.
-fn loop_of(alloc: Global, b: &Binder, lo: &Ctrl, hi: &Ctrl, body: Block) -> Result<Stmt, AllocError>
+pub fn loop_with(
+    alloc: Global,
+    b: &Binder,
+    lo: &Ctrl,
+    hi: &Ctrl,
+    body: Block,
+) -> Result<Stmt, AllocError>
     ensures { IfOk result (λ s.
         statement s ≡ tree.For (binding b.now) (control lo.now) (control hi.now) (block body)) }
 {
@@ -201,7 +207,7 @@ fn with_block<L: Ledger>(
             same(alloc, then_part, made)?,
             changed,
         ),
-        (Stmt::For(b, lo, hi, _), Branch::Main) => loop_of(alloc, b, lo, hi, changed),
+        (Stmt::For(b, lo, hi, _), Branch::Main) => loop_with(alloc, b, lo, hi, changed),
         _ => s.duplicate(alloc),
     }
 }

@@ -3,3 +3,5 @@ pub mod IsPut
 pub mod Window
 pub mod Wide
 mod Examples
+pub mod OfMentions
+pub mod OfSimple

@@ -3,3 +3,5 @@ pub mod Outcomes
 pub mod Given
 pub mod Moved
 pub mod Putting
+pub mod Mentions
+pub mod Simple

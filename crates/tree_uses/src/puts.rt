@@ -92,7 +92,7 @@ pub(crate) fn coords_for<P: Puts>(puts: &P, x: Id) -> &[Coord]
 }
 
 /// One more; what the program cannot hold is answered as want of memory.
-fn one_more(k: u32) -> Result<u32, AllocError>
+pub fn one_more(k: u32) -> Result<u32, AllocError>
     ensures { IfOk result (λ n. n ≡ suc k) }
 {
     match k.checked_add(1) {

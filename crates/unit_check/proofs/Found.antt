@@ -4,8 +4,7 @@ use Rattle.std.specs.Prelude.{if◌then◌else◌, ◌==◌, option_map}
 use Rattle.std.specs.List.{position_or_len}
 use Rattle.exo_tree.specs.Tree.{Statement, Assign, Reduce, Config, Pass, If, For, Alloc, View, Call, Block, end, next}
 use Rattle.exo_tree.specs.Nodes.{nodes, nodes_in}
-use Rattle.exo_tree.specs.Places.{Branch, Main, Else, Step, Path}
-use Rattle.check_claims.specs.Claims.{into}
+use Rattle.exo_tree.specs.Places.{Branch, Main, Else, Step, Path, path_below}
 use Rattle.bounds_check.specs.Paths.{same_branch, same_path}
 use Rattle.unit_check.specs.Preorder.{block_paths, inner_paths}
 
@@ -101,13 +100,13 @@ same_under (s ∷ outer) q p = stripped s (same_path (outer ++ q) (outer ++ p)) 
 -- ---- the paths of a block and of what is inside a statement
 
 mutual
-  pub absent : (q outer : Path) (branch : Branch) (n : ℕ) (b : Block) → ((k : ℕ) → n ≤ k → begins q (into outer branch k) ≡ false) → found (same_path q) (block_paths outer branch n b) ≡ None
+  pub absent : (q outer : Path) (branch : Branch) (n : ℕ) (b : Block) → ((k : ℕ) → n ≤ k → begins q (path_below outer branch k) ≡ false) → found (same_path q) (block_paths outer branch n b) ≡ None
   absent q outer branch n end h = refl
   absent q outer branch n (next a b) h =
-      not_first (same_path q) (into outer branch n) (inner_paths (into outer branch n) a ++ block_paths outer branch (suc n) b) (not_same q (into outer branch n) (h n (omega arith)))
+      not_first (same_path q) (path_below outer branch n) (inner_paths (path_below outer branch n) a ++ block_paths outer branch (suc n) b) (not_same q (path_below outer branch n) (h n (omega arith)))
       ∙ ap (option_map suc)
-      (stay (same_path q) (inner_paths (into outer branch n) a) (block_paths outer branch (suc n) b) (absent q outer branch (suc n) b (λ k l. h k (omega arith)))
-      ∙ absent_inner q (into outer branch n) a (h n (omega arith)))
+      (stay (same_path q) (inner_paths (path_below outer branch n) a) (block_paths outer branch (suc n) b) (absent q outer branch (suc n) b (λ k l. h k (omega arith)))
+      ∙ absent_inner q (path_below outer branch n) a (h n (omega arith)))
 
   pub absent_inner : (q path : Path) (a : Statement) → begins q path ≡ false → found (same_path q) (inner_paths path a) ≡ None
   absent_inner q path (Assign x is e) h = refl
@@ -127,7 +126,7 @@ mutual
   pub how_many : (outer : Path) (branch : Branch) (n : ℕ) (b : Block) → length (block_paths outer branch n b) ≡ nodes_in b
   how_many outer branch n end = refl
   how_many outer branch n (next a b) =
-      omega (arith, length-append (inner_paths (into outer branch n) a) (block_paths outer branch (suc n) b), how_many outer branch (suc n) b, how_many_inside (into outer branch n) a)
+      omega (arith, length-append (inner_paths (path_below outer branch n) a) (block_paths outer branch (suc n) b), how_many outer branch (suc n) b, how_many_inside (path_below outer branch n) a)
 
   pub how_many_inside : (path : Path) (a : Statement) → suc (length (inner_paths path a)) ≡ nodes a
   how_many_inside path (Assign x is e) = refl

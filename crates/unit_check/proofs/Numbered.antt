@@ -4,9 +4,8 @@ use Rattle.std.specs.Prelude.{◌==◌, option_map}
 use Rattle.std.specs.List.{position_or_len}
 use Rattle.exo_tree.specs.Tree.{Statement, Assign, Reduce, Config, Pass, If, For, Alloc, View, Call, Block, end, next}
 use Rattle.exo_tree.specs.Nodes.{nodes, nodes_in}
-use Rattle.exo_tree.specs.Places.{Branch, Main, Else, Step, Path}
+use Rattle.exo_tree.specs.Places.{Branch, Main, Else, Step, Path, path_below}
 use Rattle.exo_tree.specs.Branches.{branch_of}
-use Rattle.check_claims.specs.Claims.{into}
 use Rattle.bounds_check.specs.Paths.{same_branch, same_path}
 use Rattle.unit_check.specs.Preorder.{block_paths, inner_paths, past, before, inside, place_of}
 use Rattle.unit_check.proofs.Found.{found, or_all, position_found, not_first, is_first, stay, skip, further, at_once, begins, not_same, begins_under, same_under, absent, absent_inner, how_many, how_many_inside}
@@ -15,7 +14,7 @@ abbrev step : Branch → ℕ → Step
 step branch i = record { branch = branch; index = i }
 
 -- another step is no beginning
-other_index : (outer rest : Path) (branch : Branch) (i k : ℕ) → (i == k) ≡ false → begins (outer ++ step branch i ∷ rest) (into outer branch k) ≡ false
+other_index : (outer rest : Path) (branch : Branch) (i k : ℕ) → (i == k) ≡ false → begins (outer ++ step branch i ∷ rest) (path_below outer branch k) ≡ false
 other_index outer rest branch i k h =
     begins_under outer (step branch i ∷ rest) (step branch k ∷ [])
     ∙ by_branch branch (ap (λ (x : Bool). true && x && true) h)
@@ -42,18 +41,18 @@ module _ (f : Statement → Option ℕ) (rest : Path) (known : (path : Path) (a 
   along outer branch n k i end e = refl
   along outer branch n zero i (next a b) e =
       let here : i ≡ n = omega arith in
-      let same : into outer branch n ++ rest ≡ outer ++ step branch i ∷ rest =
+      let same : path_below outer branch n ++ rest ≡ outer ++ step branch i ∷ rest =
       append_assoc outer (step branch n ∷ []) rest ∙ ap (λ (m : ℕ). outer ++ step branch m ∷ rest) (sym here) in
-      stay (same_path (outer ++ step branch i ∷ rest)) (into outer branch n ∷ inner_paths (into outer branch n) a) (block_paths outer branch (suc n) b)
+      stay (same_path (outer ++ step branch i ∷ rest)) (path_below outer branch n ∷ inner_paths (path_below outer branch n) a) (block_paths outer branch (suc n) b)
       (absent (outer ++ step branch i ∷ rest) outer branch (suc n) b (λ k l. other_index outer rest branch i k (not_equal i k (omega arith))))
-      ∙ ap (λ (p : Path). found (same_path p) (into outer branch n ∷ inner_paths (into outer branch n) a)) (sym same)
-      ∙ known (into outer branch n) a
+      ∙ ap (λ (p : Path). found (same_path p) (path_below outer branch n ∷ inner_paths (path_below outer branch n) a)) (sym same)
+      ∙ known (path_below outer branch n) a
   along outer branch n (suc k) i (next a b) e =
-      let other : begins (outer ++ step branch i ∷ rest) (into outer branch n) ≡ false = other_index outer rest branch i n (not_equal_above i n (omega arith)) in
-      not_first (same_path (outer ++ step branch i ∷ rest)) (into outer branch n) (inner_paths (into outer branch n) a ++ block_paths outer branch (suc n) b) (not_same (outer ++ step branch i ∷ rest) (into outer branch n) other)
-      ∙ ap (option_map suc) (skip (same_path (outer ++ step branch i ∷ rest)) (inner_paths (into outer branch n) a) (block_paths outer branch (suc n) b) (absent_inner (outer ++ step branch i ∷ rest) (into outer branch n) a other))
-      ∙ further (length (inner_paths (into outer branch n) a)) (found (same_path (outer ++ step branch i ∷ rest)) (block_paths outer branch (suc n) b))
-      ∙ ap (λ (m : ℕ). option_map (λ (x : ℕ). m + x) (found (same_path (outer ++ step branch i ∷ rest)) (block_paths outer branch (suc n) b))) (how_many_inside (into outer branch n) a)
+      let other : begins (outer ++ step branch i ∷ rest) (path_below outer branch n) ≡ false = other_index outer rest branch i n (not_equal_above i n (omega arith)) in
+      not_first (same_path (outer ++ step branch i ∷ rest)) (path_below outer branch n) (inner_paths (path_below outer branch n) a ++ block_paths outer branch (suc n) b) (not_same (outer ++ step branch i ∷ rest) (path_below outer branch n) other)
+      ∙ ap (option_map suc) (skip (same_path (outer ++ step branch i ∷ rest)) (inner_paths (path_below outer branch n) a) (block_paths outer branch (suc n) b) (absent_inner (outer ++ step branch i ∷ rest) (path_below outer branch n) a other))
+      ∙ further (length (inner_paths (path_below outer branch n) a)) (found (same_path (outer ++ step branch i ∷ rest)) (block_paths outer branch (suc n) b))
+      ∙ ap (λ (m : ℕ). option_map (λ (x : ℕ). m + x) (found (same_path (outer ++ step branch i ∷ rest)) (block_paths outer branch (suc n) b))) (how_many_inside (path_below outer branch n) a)
       ∙ ap (option_map (λ (x : ℕ). nodes a + x)) (along outer branch (suc n) k i b (omega arith))
 
 one_added : (o : Option ℕ) → option_map suc o ≡ option_map (λ (n : ℕ). 1 + n) o
@@ -61,10 +60,10 @@ one_added None = refl
 one_added (Some n) = ap Some (omega arith)
 
 -- the other branch has no such path
-other_branch : (outer rest : Path) (i k : ℕ) → begins (outer ++ step Main i ∷ rest) (into outer Else k) ≡ false
+other_branch : (outer rest : Path) (i k : ℕ) → begins (outer ++ step Main i ∷ rest) (path_below outer Else k) ≡ false
 other_branch outer rest i k = begins_under outer (step Main i ∷ rest) (step Else k ∷ [])
 
-main_branch : (outer rest : Path) (i k : ℕ) → begins (outer ++ step Else i ∷ rest) (into outer Main k) ≡ false
+main_branch : (outer rest : Path) (i k : ℕ) → begins (outer ++ step Else i ∷ rest) (path_below outer Main k) ≡ false
 main_branch outer rest i k = begins_under outer (step Else i ∷ rest) (step Main k ∷ [])
 
 abbrev among : (rest : Path) → Branch → ℕ → Statement → Option ℕ

@@ -1,20 +1,13 @@
 -- How many statements stand before a place, by what the code has found of its path.
-use Rattle.std.proofs.Common.{◌≡◌, ℕ, zero, suc, ◌+◌, ◌<◌, ◌-◌, ◌^◌, min, List, [], ◌∷◌, length, take, drop, Option, Some, None, refl, ap, ◌∙◌, arith}
+use Rattle.std.proofs.Common.{◌≡◌, ℕ, zero, suc, ◌+◌, ◌<◌, ◌-◌, ◌^◌, min, List, [], ◌∷◌, length, take, Option, Some, None, refl, ap, ◌∙◌, arith}
 use Rattle.std.specs.Prelude.{option_map, option_and_then, slice_get, slice_index_or}
 use Rattle.exo_tree.specs.Tree.{Statement, Block, block, Procedure}
-use Rattle.exo_tree.specs.Nodes.{nodes, nodes_of}
+use Rattle.exo_tree.specs.Nodes.{capped, nodes, nodes_of}
 use Rattle.exo_tree.specs.Places.{Step, Path}
 use Rattle.exo_tree.specs.Branches.{branch_of}
 use Rattle.exo_tree.specs.declared.lines.ProcLines.{ProcLines}
-use Rattle.unit_check.specs.Preorder.{capped, past, before, inside, place_in, number_of, line_of}
+use Rattle.unit_check.specs.Preorder.{past, before, inside, place_in, number_of, line_of}
 use Rattle.unit_check.proofs.Found.{or_all, at_once}
-
--- one statement more
-pub one_more : (ss : List Statement) (k : ℕ) (a : Statement) (rest : List Statement) → drop k ss ≡ a ∷ rest → nodes_of (take (suc k) ss) ≡ nodes_of (take k ss) + nodes a
-one_more [] zero a rest e = cc
-one_more [] (suc k) a rest e = cc
-one_more (b ∷ ss) zero a rest e = let same : b ≡ a = cc in omega (arith, ap nodes same)
-one_more (b ∷ ss) (suc k) a rest e = omega (arith, one_more ss k a rest e)
 
 added : (m n : ℕ) (o : Option ℕ) → option_map (λ (x : ℕ). m + x) (option_map (λ (x : ℕ). n + x) o) ≡ option_map (λ (x : ℕ). m + n + x) o
 added m n None = refl

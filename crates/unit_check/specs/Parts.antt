@@ -1,5 +1,7 @@
 -- What is shown of obligations that come in parts.
-use Rattle.std.specs.Prelude.{◌≡◌, ℕ, List, [], IfOk, None, Result, Ok, Err}
+use Rattle.std.specs.Prelude.{◌≡◌, ℕ, ◌+◌, ◌/◌, min, List, [], IfOk, Option, Some, None}
+use Rattle.std.specs.Prelude.{Result, Ok, Err}
+use Rattle.exo_tree.specs.Nodes.{capped, nodes_in}
 use Rattle.exo_tree.specs.Tree.{Procedure, Program}
 use Rattle.affine_forms.specs.Affine.{Constraints}
 use Rattle.affine_systems.specs.Outcomes.{Owed}
@@ -42,6 +44,11 @@ abbrev pub ShowsAll :
     Result Showing CheckError → List (Constraints × Verdict) → Listing → Listing → Cache → Type 0
 ShowsAll (Ok s) es old new c = AreAllTaken es old new c s
 ShowsAll (Err e) es old new c = IsRefusal e (list_fault (unit_of old) (proc_of old))
+
+-- in how many stripes a procedure is checked: in as many as its places fill, but at most 32
+abbrev pub stripes_in : Option Procedure → ℕ
+stripes_in None = 1
+stripes_in (Some p) = min (capped (nodes_in p.body) / 4096 + 1) 32
 
 -- what so many places owe, behind so many others, is shown over a cache that was empty
 pub record IsShown (u : Program) (p : Procedure) (skip places : ℕ) (x : Shown) : Type 0 where

@@ -1,21 +1,20 @@
 -- The text lines of statements: those of a procedure stand in preorder.
-use Rattle.std.specs.Prelude.{ℕ, zero, suc, ◌+◌, ◌-◌, ◌^◌, min, List, [], ◌∷◌, ◌++◌, Option, Some}
+use Rattle.std.specs.Prelude.{ℕ, zero, suc, ◌+◌, List, [], ◌∷◌, ◌++◌, Option, Some}
 use Rattle.std.specs.Prelude.{None, option_map, slice_index_or}
 use Rattle.std.specs.List.{position_or_len}
 use Rattle.exo_tree.specs.Tree.{Statement, Assign, Reduce, Config, Pass, If, For, Alloc, View}
 use Rattle.exo_tree.specs.Tree.{Call, Block, end, next, Procedure}
 use Rattle.exo_tree.specs.Nodes.{nodes, nodes_in}
-use Rattle.exo_tree.specs.Places.{Branch, Main, Else, Path}
+use Rattle.exo_tree.specs.Places.{Branch, Main, Else, Path, path_below}
 use Rattle.exo_tree.specs.Branches.{branch_of}
 use Rattle.exo_tree.specs.declared.lines.ProcLines.{ProcLines}
-use Rattle.check_claims.specs.Claims.{into}
 use Rattle.bounds_check.specs.Paths.{same_path}
 
 -- the paths of the statements of a block, the first of which has that number, in preorder
 abbrev mutual
   pub block_paths : Path → Branch → ℕ → Block → List Path
   block_paths outer branch n end = []
-  block_paths outer branch n (next a b) = into outer branch n ∷ inner_paths (into outer branch n) a ++ block_paths outer branch (suc n) b
+  block_paths outer branch n (next a b) = path_below outer branch n ∷ inner_paths (path_below outer branch n) a ++ block_paths outer branch (suc n) b
 
   pub inner_paths : Path → Statement → List Path
   inner_paths path (Assign x is e) = []
@@ -43,10 +42,6 @@ line_in (Some p) (Some lines) path = line_of p lines path
 line_in p lines path = 0
 
 -- ---- the same by going down a path
-
--- the greatest number of 64 bits in the place of a greater one: no procedure has so many lines
-abbrev pub capped : ℕ → ℕ
-capped n = min n (2 ^ 64 - 1)
 
 -- what is known of the statement behind the first so many, with how many statements stand before that
 abbrev pub past : (Statement → Option ℕ) → Block → ℕ → Option ℕ

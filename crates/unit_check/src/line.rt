@@ -1,60 +1,29 @@
 //! The text line of what is refused.
-ghost use Rattle.std.specs.Prelude.{◌≡◌, ◌≤◌, ℕ, [], length, map, option_map, slice_get, slice_index_or, take};
+ghost use Rattle.std.specs.Prelude.{◌≡◌, ℕ, [], map, option_map, slice_get, slice_index_or};
 ghost use Rattle.std.specs.List.{position_or_len};
 ghost use Rattle.exo_tree.specs.Tree.{block};
-ghost use Rattle.exo_tree.specs.Nodes.{nodes, nodes_in, nodes_of};
+ghost use Rattle.exo_tree.specs.Nodes.{capped};
 ghost use Rattle.exo_tree.specs.Places.{Main};
 ghost use Rattle.exo_tree.specs.PlainPlace.{branch_taken, step_taken};
 ghost use Rattle.exo_tree.specs.PlainProcedure.{procedure};
 ghost use Rattle.exo_tree.specs.PlainStatement.{statement};
 ghost use Rattle.exo_tree.specs.PlainUnit.{program};
 ghost use Rattle.bounds_check.specs.Paths.{same_path};
-ghost use Rattle.unit_check.specs.Preorder.{before, block_paths, capped, line_in, line_of, place_in, place_of};
+ghost use Rattle.unit_check.specs.Preorder.{before, block_paths, line_in, line_of, place_in, place_of};
 
 use crate::refused::UnitRefused;
-use exo_tree::{Block, Branch, Path, Proc, ProcId, ProcLines, Step, Stmt, Unit};
+use exo_tree::{
+    Block, Branch, Path, Proc, ProcId, ProcLines, Step, Stmt, Unit, count_first, count_statements,
+};
 
 // Counts stop at the greatest number of 64 bits: no procedure has so many lines.
-
-/// The number of statements of a block, at every depth.
-#[cycle(count)]
-pub(crate) fn count(b: &Block) -> usize
-    ensures { result ≡ capped (nodes_in (block b.now)) }
-{
-    count_first(b, b.len())
-}
-
-/// The number of the first `to` statements of a block and of those inside them.
-#[cycle(count)]
-fn count_first(b: &Block, to: usize) -> usize
-    requires { to ≤ length b.now }
-    ensures { result ≡ capped (nodes_of (take to b.now)) }
-{
-    let mut all: usize = 0;
-    for k in 0..to {
-        all = all.saturating_add(count_one(b.statement(k)));
-    }
-    all
-}
-
-/// The number of a statement and of those inside it.
-#[cycle(count)]
-fn count_one(s: &Stmt) -> usize
-    ensures { result ≡ capped (nodes (statement s.now)) }
-{
-    match s {
-        Stmt::If(_, a, b) => count(a).saturating_add(count(b)).saturating_add(1),
-        Stmt::For(_, _, _, b) => count(b).saturating_add(1),
-        _ => 1,
-    }
-}
 
 /// The number of statements inside a statement before those of a branch.
 fn count_before(s: &Stmt, branch: Branch) -> usize
     ensures { result ≡ capped (before (branch_taken branch) (statement s.now)) }
 {
     match (s, branch) {
-        (Stmt::If(_, a, _), Branch::Else) => count(a),
+        (Stmt::If(_, a, _), Branch::Else) => count_statements(a),
         _ => 0,
     }
 }
@@ -93,7 +62,7 @@ fn number_of(body: &Block, steps: &[Step]) -> usize
 {
     match place_of(body, steps) {
         Some(number) => number,
-        None => count(body),
+        None => count_statements(body),
     }
 }
 

@@ -1,15 +1,15 @@
 //! The check of a long procedure, in stripes of its places.
-ghost use Rattle.std.specs.Prelude.{◌≡◌, ◌<◌, ◌≤◌, ◌+◌, ◌*◌, [], IfOk, MatchOption};
+ghost use Rattle.std.specs.Prelude.{◌≡◌, ◌<◌, ◌≤◌, ◌+◌, ◌*◌, [], IfOk, MatchOption, slice_get};
 ghost use Rattle.std.specs.Thread.{IsSync};
+ghost use Rattle.exo_tree.specs.PlainUnit.{program};
 ghost use Rattle.bounds_check.specs.Parts.{IsListed, proc_of, unit_of};
 ghost use Rattle.ob_check.specs.Held.{held};
 ghost use Rattle.ob_check.specs.declared.cache.Cache.{Cache};
-ghost use Rattle.unit_check.specs.Parts.{AreAllTaken, IsShown};
+ghost use Rattle.unit_check.specs.Parts.{AreAllTaken, IsShown, stripes_in};
 
-use crate::line::count;
 use crate::showing::Showing;
 use bounds_check::{CheckError, Listing, Stripe};
-use exo_tree::{ProcId, Unit};
+use exo_tree::{ProcId, Unit, count_statements};
 use ob_check::{Gate, new_cache};
 use std::alloc::Global;
 use std::thread::{Threads, join};
@@ -52,11 +52,12 @@ impl Shown {
 
 /// In how many stripes a procedure is checked: in as many as its places fill, but at most 32.
 pub(crate) fn stripes_of(unit: &Unit, p: ProcId) -> usize
+    ensures exact { result ≡ stripes_in (slice_get (program unit.now).procedures p.0) }
     ensures some { 0 < result }
     ensures few { result ≤ 32 }
 {
     match unit.procs.get(p.0 as usize) {
-        Some(proc) => (count(&proc.body) / PLACES + 1).min(MOST),
+        Some(proc) => (count_statements(&proc.body) / PLACES + 1).min(MOST),
         None => 1,
     }
 }

@@ -23,7 +23,7 @@ use Rattle.place_laws.specs.Scope.Opened.{MayLeave, IsNew, IsInner}
 use Rattle.place_laws.specs.Scope.Roots.{own_roots_at}
 use Rattle.place_laws.proofs.OfScope.MayLeave.{may_leave_law}
 use Rattle.check_laws.proofs.OfFacts.Truths.{contrary}
-use Rattle.made_trees.specs.Passes.{or_pass}
+use Rattle.tree_edits.specs.Made.Passes.{or_pass}
 use Rattle.cursor_forward.specs.Forwards.{bone, Carries, more, none}
 use Rattle.cursor_forward.specs.Shifts.{at_index, range}
 use Rattle.buffer_laws.specs.Bound.{Hole, Top, InNegated, InRelu, InPlus, InMinus, InTimes, PlusIn}

@@ -19,8 +19,8 @@ use Rattle.meaning_laws.proofs.Substitute.{and_parts}
 use Rattle.buffer_laws.specs.Staging.Stores.{spans}
 use Rattle.buffer_laws.specs.StageMem.{Asked}
 use Rattle.buffer_laws.specs.Stride.OnView.{AllHold}
-use Rattle.stage_goes_laws.specs.Asked.{IsMetAt}
-use Rattle.stage_goes_laws.specs.Sizes.{HasSizes}
+use Rattle.alloc_laws.specs.Goes.Asked.{IsMetAt}
+use Rattle.alloc_laws.specs.Goes.Sizes.{HasSizes}
 use Rattle.check_laws.specs.Facts.Laws.{ComesToPlace}
 use Rattle.step_rules.specs.Rule.{Target, Need, Says}
 use Rattle.step_rules.specs.Lawful.{IsMet}

@@ -5,7 +5,7 @@ use Rattle.exo_tree.specs.Tree.{Control, Lit, Coord, Statement, Assign, Reduce, 
 use Rattle.exo_tree.specs.Tree.{View, Call, Block, end, next, joined, statements}
 use Rattle.exo_tree.specs.Context.{Here, After}
 use Rattle.exo_tree.specs.Places.{Opened, parted}
-use Rattle.made_trees.specs.Passes.{or_pass}
+use Rattle.tree_edits.specs.Made.Passes.{or_pass}
 use Rattle.cursor_forward.specs.Forwards as bone_of
 use Rattle.cursor_forward.specs.Forwards.{Conditional, Joint, more, none, bone, bones}
 use Rattle.cursor_forward.specs.Forwards.{Carries}

@@ -63,19 +63,20 @@ use Rattle.buffer_laws.proofs.OfStaging.AtPlaces.{own_roots_law}
 use Rattle.buffer_laws.specs.Stride.OnView.{LiesWithin}
 use Rattle.buffer_laws.specs.Stride.Passed.{ArePassed}
 use Rattle.buffer_laws.specs.Stride.Strides.{stride_seen}
-use Rattle.stage_goes_laws.specs.Asked.{asked_from}
-use Rattle.stage_goes_laws.specs.Fits.{IsWhole, IsWindowMade, is_whole, passes_whole}
-use Rattle.stage_goes_laws.specs.Fits.{argument_spans, has_spans, step_has_spans}
-use Rattle.stage_goes_laws.specs.Goes.{goes, IsStaged}
-use Rattle.stage_goes_laws.specs.Passing.{MayBePassed}
-use Rattle.stage_goes_laws.proofs.Asked.{asked_lies}
-use Rattle.stage_goes_laws.proofs.EndsAtPlace.{ends_well_at_place}
-use Rattle.stage_goes_laws.proofs.Fits.{fits_from_lies, window_comes, window_shown, sums_shown}
-use Rattle.stage_goes_laws.proofs.GoesDrafts.{staged_draft_goes, reader_draft_goes, sums_draft_go}
-use Rattle.stage_goes_laws.proofs.GoesDrafts.{untouched_draft_goes, unseen_draft_goes, goes_unused}
-use Rattle.stage_goes_laws.proofs.Matches.{matches_by_rules}
-use Rattle.stage_goes_laws.proofs.Passing.{passed_by_tests, silent_by_modes}
-use Rattle.stage_goes_laws.proofs.Sizes.{sizes_at_place, sizes_within}
+use Rattle.alloc_laws.specs.Goes.Asked.{asked_from}
+use Rattle.alloc_laws.specs.Goes.Fits.{IsWhole, IsWindowMade, is_whole, passes_whole}
+use Rattle.alloc_laws.specs.Goes.Fits.{argument_spans, has_spans, step_has_spans}
+use Rattle.alloc_laws.specs.Goes.Goes.{goes, IsStaged}
+use Rattle.alloc_laws.specs.Goes.Passing.{MayBePassed}
+use Rattle.alloc_laws.proofs.OfGoes.Asked.{asked_lies}
+use Rattle.alloc_laws.proofs.OfGoes.EndsAtPlace.{ends_well_at_place}
+use Rattle.alloc_laws.proofs.OfGoes.Fits.{fits_from_lies, window_comes, window_shown, sums_shown}
+use Rattle.alloc_laws.proofs.OfGoes.GoesDrafts.{staged_draft_goes, reader_draft_goes, sums_draft_go}
+use Rattle.alloc_laws.proofs.OfGoes.GoesDrafts.{untouched_draft_goes, unseen_draft_goes}
+use Rattle.alloc_laws.proofs.OfGoes.GoesDrafts.{goes_unused}
+use Rattle.alloc_laws.proofs.OfGoes.Matches.{matches_by_rules}
+use Rattle.alloc_laws.proofs.OfGoes.Passing.{passed_by_tests, silent_by_modes}
+use Rattle.alloc_laws.proofs.OfGoes.Sizes.{sizes_at_place, sizes_within}
 use Rattle.step_rules.specs.Rule.{Got, Not, Piece, Spot, Simplified, Says}
 use Rattle.step_rules.specs.Answer.{then_try, opened_or_wrong}
 use Rattle.step_rules.specs.Lawful.{IsMet, Site, IsSite, Stands, Replaces, hiding, IsLawful}

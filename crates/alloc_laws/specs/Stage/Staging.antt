@@ -24,8 +24,8 @@ use Rattle.buffer_laws.specs.Staging.Stores.{spans, variables}
 use Rattle.buffer_laws.specs.StageMem.{Staging, loads, stores, staged_block, is_view_used}
 use Rattle.buffer_laws.specs.StageMem.{is_aliased, is_only_reduced}
 use Rattle.buffer_laws.specs.Stride.Strides.{stride_seen, is_stride_used}
-use Rattle.stage_goes_laws.specs.Fits.{has_spans}
-use Rattle.stage_goes_laws.specs.Asked.{asked_from}
+use Rattle.alloc_laws.specs.Goes.Fits.{has_spans}
+use Rattle.alloc_laws.specs.Goes.Asked.{asked_from}
 use Rattle.step_rules.specs.Rule.{Tried, Got, Not, Target, Piece, Spot, Writing, Need, Says, Rule}
 use Rattle.step_rules.specs.Answer.{then_try, opened_or_wrong}
 use Rattle.step_rules.specs.Lawful.{around, old, scope_here}

@@ -11,14 +11,14 @@ use Rattle.exo_meaning.specs.Run.{product, tensor, program_world}
 use Rattle.exo_meaning.specs.Inputs.{IsValid, IsBetween, IsIndex, FitsCell, offset, is_buffer_of}
 use Rattle.exo_meaning.specs.Units.{IsUnit}
 use Rattle.memory_kinds.specs.Faults.{fault_of}
-use Rattle.c_names.specs.Words.{is_word}
-use Rattle.c_names.specs.Clash.{first_clash}
-use Rattle.c_machine.specs.Machine.{Outcome, Machine}
-use Rattle.c_machine.specs.CRun.{run_file}
-use Rattle.c_lowered.specs.LoweredUnit.{Printing, is_listed, is_used, global_names, lowered}
-use Rattle.c_follows.specs.SameInput.{AreSeparate}
-use Rattle.c_follows.specs.Grounds.{declared_in}
-use Rattle.c_follows.specs.Units.{IsListing, AreLowered, IsSameStart}
+use Rattle.c_tree.specs.Names.Words.{is_word}
+use Rattle.c_tree.specs.Names.Clash.{first_clash}
+use Rattle.c_unit_laws.specs.Follows.Machine.Machine.{Outcome, Machine}
+use Rattle.c_unit_laws.specs.Follows.Machine.CRun.{run_file}
+use Rattle.c_lowering.specs.Made.LoweredUnit.{Printing, is_listed, is_used, global_names, lowered}
+use Rattle.c_unit_laws.specs.Follows.SameInput.{AreSeparate}
+use Rattle.c_unit_laws.specs.Follows.Grounds.{declared_in}
+use Rattle.c_unit_laws.specs.Follows.Units.{IsListing, AreLowered, IsSameStart}
 use Rattle.c_unit_laws.specs.ClosedRuns.Add3.{add3, add3_program, add3_printed, by_argument, four_long, input, layout, object, machine, things, no_templates, Add3Runs}
 use Rattle.c_unit_laws.proofs.OfClosedRuns.Entries.{none_some, some_same, no_number, no_entry, machine_of, one_index}
 

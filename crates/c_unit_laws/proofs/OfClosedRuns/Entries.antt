@@ -5,9 +5,9 @@ use Rattle.std.proofs.lemmas.Bool.{and_parts}
 use Rattle.exo_meaning.specs.Value.{Undefined, Number}
 use Rattle.exo_meaning.specs.Scene.{is_below, where_true}
 use Rattle.exo_meaning.specs.Inputs.{IsIndex}
-use Rattle.c_follows.specs.Simulation.{in_range}
-use Rattle.c_machine.specs.Machine.{Outcome, Done, Fault, NoStore, Machine}
-use Rattle.c_machine.specs.Examples.{bare}
+use Rattle.c_unit_laws.specs.Follows.Simulation.{in_range}
+use Rattle.c_unit_laws.specs.Follows.Machine.Machine.{Outcome, Done, Fault, NoStore, Machine}
+use Rattle.c_unit_laws.specs.Follows.Machine.Examples.{bare}
 
 pub none_some : {A : Type 0} {a : A} → None ≡ Some a → ⊥
 none_some e = cc

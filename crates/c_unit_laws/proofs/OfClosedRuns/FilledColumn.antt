@@ -8,18 +8,19 @@ use Rattle.exo_meaning.specs.Scene.{Shape, whole}
 use Rattle.exo_meaning.specs.Orders.{Each}
 use Rattle.exo_meaning.specs.Run.{product, program_world}
 use Rattle.exo_meaning.specs.Inputs.{IsValid, IsBetween, IsIndex, FitsCell, offset, is_buffer_of}
-use Rattle.c_names.specs.Words.{is_word}
-use Rattle.c_machine.specs.Machine.{Outcome, IsWindow, Machine}
-use Rattle.c_machine.specs.CRun.{run_file}
-use Rattle.c_lowered.specs.LoweredUnit.{is_used, lowered}
-use Rattle.c_lowered.specs.Examples.{fill}
-use Rattle.c_follows.specs.Simulation.{dot}
-use Rattle.c_follows.specs.SameInput.{AreSeparate, IsSameWindow}
-use Rattle.c_follows.specs.Grounds.{declared_in}
-use Rattle.c_follows.specs.Units.{IsSameStart}
+use Rattle.c_tree.specs.Names.Words.{is_word}
+use Rattle.c_unit_laws.specs.Follows.Machine.Machine.{Outcome, IsWindow, Machine}
+use Rattle.c_unit_laws.specs.Follows.Machine.CRun.{run_file}
+use Rattle.c_lowering.specs.Made.LoweredUnit.{is_used, lowered}
+use Rattle.c_lowering.specs.Made.Examples.{fill}
+use Rattle.c_unit_laws.specs.Follows.Simulation.{dot}
+use Rattle.c_unit_laws.specs.Follows.SameInput.{AreSeparate, IsSameWindow}
+use Rattle.c_unit_laws.specs.Follows.Grounds.{declared_in}
+use Rattle.c_unit_laws.specs.Follows.Units.{IsSameStart}
 use Rattle.c_unit_laws.specs.Instance.{column_program, both_printed}
-use Rattle.c_unit_laws.specs.ClosedRuns.FilledColumn.{column, input, layout, machine, things, no_templates, FilledColumn}
+use Rattle.c_unit_laws.specs.ClosedRuns.FilledColumn.{column, input, layout, things, no_templates, FilledColumn}
 use Rattle.c_unit_laws.proofs.OfClosedRuns.Entries.{none_some, some_same, no_number, no_entry, machine_of, one_index, one_in_range}
+use Rattle.c_unit_laws.specs.ColumnRun.{machine}
 
 -- ---- the one buffer, which has the number 1
 

@@ -11,8 +11,10 @@ use Rattle.meaning_laws.specs.Fields.{writes_field, step_writes_field, HasField}
 use Rattle.meaning_laws.specs.UnitFields.{written_at, written_by, all_written, unit_writes}
 use Rattle.meaning_laws.proofs.Fields.{fields_are_kept}
 use Rattle.meaning_laws.proofs.UnitFields.{unit_leaves}
-use Rattle.exo_calls.proofs.Reach.{closed_is_closed}
-use Rattle.c_lowered.specs.LoweredUnit.{Printing, in_argument, in_condition, in_conditions, in_block, in_statement, in_procedure, is_listed, counts, is_used}
+use Rattle.exo_modes.proofs.OfCalls.Reach.{closed_is_closed}
+use Rattle.c_lowering.specs.Made.LoweredUnit.{Printing, in_argument, in_condition, in_conditions}
+use Rattle.c_lowering.specs.Made.LoweredUnit.{in_block, in_statement, in_procedure, is_listed}
+use Rattle.c_lowering.specs.Made.LoweredUnit.{counts, is_used}
 use Rattle.c_unit_laws.proofs.Standing.{one_longer, calls_before}
 use Rattle.c_unit_laws.proofs.Listed.{used_at}
 use Rattle.c_unit_laws.specs.Undeclared.Laws.{UndeclaredFieldsStay, setter, two_fields, setter_printed, OneOfTwo}

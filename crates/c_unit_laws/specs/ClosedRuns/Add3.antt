@@ -11,13 +11,13 @@ use Rattle.exo_meaning.specs.Run.{tensor, program_world}
 use Rattle.exo_meaning.specs.Inputs.{IsValid, run_procedure}
 use Rattle.exo_meaning.specs.Units.{IsUnit}
 use Rattle.memory_kinds.specs.Faults.{fault_of}
-use Rattle.c_machine.specs.Machine.{Done, Thing, IsArray, Object, Machine}
-use Rattle.c_machine.specs.CRun.{Behaviour, run_file}
-use Rattle.c_lowered.specs.LoweredUnit.{Printing, lowered}
-use Rattle.c_lowered.specs.Examples.{param, printed, dram}
-use Rattle.c_follows.specs.Simulation.{Layout}
-use Rattle.c_follows.specs.Templates.{TemplatesDoTheirBodies}
-use Rattle.c_follows.specs.Units.{AreLowered, IsSameStart}
+use Rattle.c_unit_laws.specs.Follows.Machine.Machine.{Done, Thing, IsArray, Object, Machine}
+use Rattle.c_unit_laws.specs.Follows.Machine.CRun.{Behaviour, run_file}
+use Rattle.c_lowering.specs.Made.LoweredUnit.{Printing, lowered}
+use Rattle.c_lowering.specs.Made.Examples.{param, printed, dram}
+use Rattle.c_unit_laws.specs.Follows.Simulation.{Layout}
+use Rattle.c_unit_laws.specs.Follows.Templates.{TemplatesDoTheirBodies}
+use Rattle.c_unit_laws.specs.Follows.Units.{AreLowered, IsSameStart}
 use Rattle.c_unit_laws.specs.Stores.{allocates_nothing}
 
 abbrev pub four : List Control

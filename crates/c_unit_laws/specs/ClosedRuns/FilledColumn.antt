@@ -1,6 +1,6 @@
 -- A call from outside that hands a function a column: two cells of an object of four, two steps
 -- apart.
-use Rattle.std.specs.Prelude.{◌≡◌, ◌==◌, ℕ, pos, true, false, if◌then◌else◌, List, [], ◌∷◌, map}
+use Rattle.std.specs.Prelude.{◌≡◌, ◌==◌, ℕ, pos, true, if◌then◌else◌, List, [], ◌∷◌, map}
 use Rattle.std.specs.Prelude.{Option, Some, None}
 use Rattle.std.specs.Option.{IsSome}
 use Rattle.exo_tree.specs.Tree.{I32}
@@ -9,15 +9,16 @@ use Rattle.exo_meaning.specs.Scene.{Shape, whole}
 use Rattle.exo_meaning.specs.State.{State}
 use Rattle.exo_meaning.specs.Run.{program_world}
 use Rattle.exo_meaning.specs.Inputs.{IsValid, run_procedure}
-use Rattle.c_machine.specs.Machine.{Done, Thing, IsNumber, IsWindow, Machine}
-use Rattle.c_machine.specs.CRun.{Behaviour, run_file}
-use Rattle.c_lowered.specs.LoweredUnit.{lowered}
-use Rattle.c_lowered.specs.Examples.{fill}
-use Rattle.c_follows.specs.Simulation.{Layout}
-use Rattle.c_follows.specs.Templates.{TemplatesDoTheirBodies}
-use Rattle.c_follows.specs.Units.{IsSameStart}
+use Rattle.c_unit_laws.specs.Follows.Machine.Machine.{Done, Thing, IsNumber, IsWindow, Machine}
+use Rattle.c_unit_laws.specs.Follows.Machine.CRun.{Behaviour, run_file}
+use Rattle.c_lowering.specs.Made.LoweredUnit.{lowered}
+use Rattle.c_lowering.specs.Made.Examples.{fill}
+use Rattle.c_unit_laws.specs.Follows.Simulation.{Layout}
+use Rattle.c_unit_laws.specs.Follows.Templates.{TemplatesDoTheirBodies}
+use Rattle.c_unit_laws.specs.Follows.Units.{IsSameStart}
 use Rattle.c_unit_laws.specs.Instance.{column_program, both_printed}
 use Rattle.c_unit_laws.specs.Stores.{allocates_nothing}
+use Rattle.c_unit_laws.specs.ColumnRun.{machine}
 
 -- two cells, two steps apart
 abbrev pub column : Shape
@@ -38,17 +39,6 @@ input = record {
 -- from the second cell of the object on
 abbrev pub layout : Layout
 layout b = record { object = 0; offset = pos 1 }
-
-abbrev pub machine : Machine
-machine = record {
-  setting = record {
-    names = λ x. None;
-    objects = λ o. if o == 0 then Some (record { cell = I32; size = pos 4; heap = false }) else None;
-    free = 1;
-    fields = λ x. pos 0;
-  };
-  contents = λ o k. if o == 0 then Number (pos 0) else Undefined;
-}
 
 abbrev pub things : List Thing
 things = IsNumber (pos 2) ∷ IsWindow (layout 1) (pos 2 ∷ []) ∷ []

@@ -13,14 +13,16 @@ use Rattle.exo_meaning.specs.Run.{tensor, program_world}
 use Rattle.exo_meaning.specs.Inputs.{IsValid, run_procedure}
 use Rattle.exo_meaning.specs.Units.{IsUnit}
 use Rattle.memory_kinds.specs.Faults.{fault_of}
-use Rattle.c_machine.specs.Machine.{Done, Thing, IsArray, IsWindow, Object, Machine}
-use Rattle.c_machine.specs.CRun.{Behaviour, run_file}
-use Rattle.c_lowered.specs.LoweredUnit.{Printing, lowered}
-use Rattle.c_lowered.specs.Examples.{param, printed, dram}
-use Rattle.c_follows.specs.Simulation.{Layout}
-use Rattle.c_follows.specs.Templates.{TemplatesDoTheirBodies}
-use Rattle.c_follows.specs.Units.{AreLowered, IsSameStart}
+use Rattle.c_unit_laws.specs.Follows.Machine.Machine.{Done, Thing, IsArray, IsWindow, Object}
+use Rattle.c_unit_laws.specs.Follows.Machine.Machine.{Machine}
+use Rattle.c_unit_laws.specs.Follows.Machine.CRun.{Behaviour, run_file}
+use Rattle.c_lowering.specs.Made.LoweredUnit.{Printing, lowered}
+use Rattle.c_lowering.specs.Made.Examples.{param, printed, dram}
+use Rattle.c_unit_laws.specs.Follows.Simulation.{Layout}
+use Rattle.c_unit_laws.specs.Follows.Templates.{TemplatesDoTheirBodies}
+use Rattle.c_unit_laws.specs.Follows.Units.{AreLowered, IsSameStart}
 use Rattle.c_unit_laws.specs.Stores.{allocates_nothing}
+use Rattle.c_unit_laws.specs.ClosedRuns.Add3.{by_argument}
 
 abbrev pub two : List Control
 two = Lit (pos 2) ∷ []
@@ -45,9 +47,6 @@ abbrev pub put_printed : List Printing
 put_printed = printed 0 (codes "put") ∷ []
 
 -- for w, x, and any other buffer
-abbrev pub by_argument : {A : Type 0} → A → A → A → ℕ → A
-by_argument a b c x = if x == 0 then a else (if x == 1 then b else c)
-
 abbrev pub two_long : List ℤ
 two_long = pos 2 ∷ []
 

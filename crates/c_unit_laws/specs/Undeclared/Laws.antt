@@ -7,9 +7,9 @@ use Rattle.exo_meaning.specs.State.{State}
 use Rattle.exo_meaning.specs.Run.{program_world}
 use Rattle.exo_meaning.specs.Inputs.{run_procedure}
 use Rattle.exo_meaning.specs.Units.{IsUnit}
-use Rattle.c_lowered.specs.LoweredUnit.{Printing, counts}
-use Rattle.c_lowered.specs.Examples.{printed, dram}
-use Rattle.c_follows.specs.Grounds.{declared_in}
+use Rattle.c_lowering.specs.Made.LoweredUnit.{Printing, counts}
+use Rattle.c_lowering.specs.Made.Examples.{printed, dram}
+use Rattle.c_unit_laws.specs.Follows.Grounds.{declared_in}
 
 -- A procedure that is printed, or called by one, leaves each field that the C does not declare as
 -- it was: neither it nor what it calls writes it.

@@ -4,7 +4,7 @@ use Rattle.std.specs.Prelude.{IsSome, length, slice_get, nat_lt}
 use Rattle.exo_tree.specs.Tree.{Kind, Size, Index, Truth, Stride, Binder, Control, Condition, Argument, ControlArg, ConditionArg, Whole, Window, Statement, Assign, Reduce, Config, Pass, If, For, Alloc, View, Call, Block, end, next, Procedure, ConfigField, Program}
 use Rattle.exo_tree.specs.Calls.{passed_by}
 use Rattle.exo_tree.specs.Context.{fill}
-use Rattle.exo_tree.specs.Places.{Branch, Main, Else, Path, opened}
+use Rattle.exo_tree.specs.Places.{Branch, Main, Else, Path, opened, path_below}
 use Rattle.exo_meaning.specs.Value.{on_two}
 use Rattle.exo_meaning.specs.Scene.{Scene, then_do, numbers, holds, window}
 use Rattle.exo_meaning.specs.State.{State, on_scene, with_control, with_field, left}
@@ -21,7 +21,7 @@ use Rattle.affine_places.specs.Roots.{Roots, roots_of}
 use Rattle.text_show.specs.Words.{Words, words_of}
 use Rattle.check_claims.specs.Claim.{Claim}
 use Rattle.check_claims.specs.Extents.{extents_of, Extents}
-use Rattle.check_claims.specs.Claims.{into, placed_at, given_claims, write_claims, own_claims, inner_claims, block_claims, written_by, call_claims}
+use Rattle.check_claims.specs.Claims.{placed_at, given_claims, write_claims, own_claims, inner_claims, block_claims, written_by, call_claims}
 use Rattle.check_laws.specs.Claims.Holding.{ClaimHolds, calls, step_calls}
 use Rattle.check_laws.proofs.OfClaims.Basics.{and_parts, no_test, by_test, none_some, there_some, if_gives, Succeeds, succeeds_then, succeeds_where, succeeds_some, some_injective, each_left, each_right, or_left, or_right, same_number}
 use Rattle.check_laws.proofs.OfClaims.Seen.{Hold, IsKeptApart, IsDescribed, dims_positive, store_there, IsPart, window_there}
@@ -114,7 +114,7 @@ module _ (u : Program) (p : Procedure) (may : MayRun u.fields (length u.memories
 
   module _ (outer : Path) (branch : Branch) (n : ℕ) (a : Statement) (b : Block) (scope : Scope) (root : ℕ → ℕ) (At : State → Type 0) (s : Stands outer branch n (next a b) scope root At) where
     abbrev path : Path
-    path = into outer branch n
+    path = path_below outer branch n
 
     formed_parts : (is_statement fields (length u.memories) world.callees scope root a ≡ true) × (is_block fields (length u.memories) world.callees (scope_after a scope) (roots_after a root) b ≡ true)
     formed_parts = and_parts (is_statement fields (length u.memories) world.callees scope root a) _ s.formed
@@ -154,22 +154,22 @@ module _ (u : Program) (p : Procedure) (may : MayRun u.fields (length u.memories
       both_formed : (is_block fields (length u.memories) world.callees scope root a && is_block fields (length u.memories) world.callees scope root b) ≡ true
       both_formed = (and_parts (not (is_empty a) && (is_short a && is_short b)) _ (and_parts (is_condition fields with_fields scope c) _ (formed_parts outer branch n (If c a b) rest scope root At s).0).1).1
 
-      pub then_stands : Stands (into outer branch n) Main 0 a scope root (λ t. At t × (holds t.scene c ≡ true))
+      pub then_stands : Stands (path_below outer branch n) Main 0 a scope root (λ t. At t × (holds t.scene c ≡ true))
       then_stands = record {
         leads = leads_then world p outer branch n rest scope At c a b s.leads;
         formed = (and_parts (is_block fields (length u.memories) world.callees scope root a) _ both_formed).0;
         agrees = s.agrees.0.0;
-        claimed = each_left (ClaimHolds world p) (block_claims w u table roots (into outer branch n) Main 0 a) (block_claims w u table roots (into outer branch n) Else 0 b) (inner_claimed outer branch n (If c a b) rest scope root At s);
+        claimed = each_left (ClaimHolds world p) (block_claims w u table roots (path_below outer branch n) Main 0 a) (block_claims w u table roots (path_below outer branch n) Else 0 b) (inner_claimed outer branch n (If c a b) rest scope root At s);
         callees_run = λ k e. s.callees_run k (or_left (calls a k || calls b k) (calls rest k) (or_left (calls a k) (calls b k) e));
         described = λ t h. s.described t h.0;
       }
 
-      pub else_stands : Stands (into outer branch n) Else 0 b scope root (λ t. At t × (holds t.scene c ≡ false))
+      pub else_stands : Stands (path_below outer branch n) Else 0 b scope root (λ t. At t × (holds t.scene c ≡ false))
       else_stands = record {
         leads = leads_else world p outer branch n rest scope At c a b s.leads;
         formed = (and_parts (is_block fields (length u.memories) world.callees scope root a) _ both_formed).1;
         agrees = s.agrees.0.1;
-        claimed = each_right (ClaimHolds world p) (block_claims w u table roots (into outer branch n) Main 0 a) (block_claims w u table roots (into outer branch n) Else 0 b) (inner_claimed outer branch n (If c a b) rest scope root At s);
+        claimed = each_right (ClaimHolds world p) (block_claims w u table roots (path_below outer branch n) Main 0 a) (block_claims w u table roots (path_below outer branch n) Else 0 b) (inner_claimed outer branch n (If c a b) rest scope root At s);
         callees_run = λ k e. s.callees_run k (or_left (calls a k || calls b k) (calls rest k) (or_right (calls a k) (calls b k) e));
         described = λ t h. s.described t h.0;
       }
@@ -181,7 +181,7 @@ module _ (u : Program) (p : Procedure) (may : MayRun u.fields (length u.memories
           let r = and_parts (is_control fields plainly scope lo && is_control fields plainly scope hi) _ q.1 in
           (q.0, (and_parts (not (is_empty b) && is_short b) _ r.1).1)
 
-      pub loop_stands : Stands (into outer branch n) Main 0 b (with_name scope i (ControlName Index)) root (InTurn world p outer branch n rest scope At i lo hi b)
+      pub loop_stands : Stands (path_below outer branch n) Main 0 b (with_name scope i (ControlName Index)) root (InTurn world p outer branch n rest scope At i lo hi b)
       loop_stands = record {
         leads = leads_loop world p outer branch n rest scope At i lo hi b opened_law s.leads;
         formed = loop_formed.1;
@@ -211,20 +211,20 @@ module _ (u : Program) (p : Procedure) (may : MayRun u.fields (length u.memories
 
       step_runs : (a : Statement) (b : Block) (outer : Path) (branch : Branch) (n : ℕ) (scope : Scope) (root : ℕ → ℕ) (At : State → Type 0) → Stands outer branch n (next a b) scope root At → (t : State) → At t → IsSome (step world a t)
       step_runs (Assign x is e) b outer branch n scope root At s t h =
-          succeeds_some (λ z. Unit {0}) (step world (Assign x is e) t) (store_there w fields table scope t (s.described t h) (reached_sound (into outer branch n) (next (Assign x is e) end) scope t (reaches outer branch n (Assign x is e) b scope root At s t h)) x is e (λ v old. v) (formed_parts outer branch n (Assign x is e) b scope root At s).0 (held outer branch n (Assign x is e) b scope root At s t h))
+          succeeds_some (λ z. Unit {0}) (step world (Assign x is e) t) (store_there w fields table scope t (s.described t h) (reached_sound (path_below outer branch n) (next (Assign x is e) end) scope t (reaches outer branch n (Assign x is e) b scope root At s t h)) x is e (λ v old. v) (formed_parts outer branch n (Assign x is e) b scope root At s).0 (held outer branch n (Assign x is e) b scope root At s t h))
       step_runs (Reduce x is e) b outer branch n scope root At s t h =
-          succeeds_some (λ z. Unit {0}) (step world (Reduce x is e) t) (store_there w fields table scope t (s.described t h) (reached_sound (into outer branch n) (next (Reduce x is e) end) scope t (reaches outer branch n (Reduce x is e) b scope root At s t h)) x is e (λ v old. on_two ◌+ℤ◌ old v) (formed_parts outer branch n (Reduce x is e) b scope root At s).0 (held outer branch n (Reduce x is e) b scope root At s t h))
+          succeeds_some (λ z. Unit {0}) (step world (Reduce x is e) t) (store_there w fields table scope t (s.described t h) (reached_sound (path_below outer branch n) (next (Reduce x is e) end) scope t (reaches outer branch n (Reduce x is e) b scope root At s t h)) x is e (λ v old. on_two ◌+ℤ◌ old v) (formed_parts outer branch n (Reduce x is e) b scope root At s).0 (held outer branch n (Reduce x is e) b scope root At s t h))
       step_runs (Config f a) b outer branch n scope root At s t h =
           configured f a scope t (fields f) refl (formed_parts outer branch n (Config f a) b scope root At s).0 (held outer branch n (Config f a) b scope root At s t h)
       step_runs Pass b outer branch n scope root At s t h = refl
       step_runs (If c x y) b outer branch n scope root At s t h =
           map_some (left t) (choose (holds t.scene c) (run world x) (run world y) t) (by_test (holds t.scene c)
-          (λ e. subst (λ z. IsSome (choose z (run world x) (run world y) t)) (sym e) (block_runs x (into outer branch n) Main 0 scope root (λ t. At t × (holds t.scene c ≡ true)) (then_stands outer branch n b scope root At c x y s) t (h, e)))
-          (λ e. subst (λ z. IsSome (choose z (run world x) (run world y) t)) (sym e) (block_runs y (into outer branch n) Else 0 scope root (λ t. At t × (holds t.scene c ≡ false)) (else_stands outer branch n b scope root At c x y s) t (h, e))))
+          (λ e. subst (λ z. IsSome (choose z (run world x) (run world y) t)) (sym e) (block_runs x (path_below outer branch n) Main 0 scope root (λ t. At t × (holds t.scene c ≡ true)) (then_stands outer branch n b scope root At c x y s) t (h, e)))
+          (λ e. subst (λ z. IsSome (choose z (run world x) (run world y) t)) (sym e) (block_runs y (path_below outer branch n) Else 0 scope root (λ t. At t × (holds t.scene c ≡ false)) (else_stands outer branch n b scope root At c x y s) t (h, e))))
       step_runs (For i lo hi x) b outer branch n scope root At s t h =
           turns_run i.id (run world x) t (turns_of t.scene lo hi) t (record { control = refl; views = refl }) (λ m q z same.
           map_some (left q) (run world x (on_scene (with_control i.id m) q))
-          (block_runs x (into outer branch n) Main 0 (with_name scope i (ControlName Index)) root (InTurn world p outer branch n b scope At i lo hi x) (loop_stands outer branch n b scope root At i lo hi x s) (on_scene (with_control i.id m) q)
+          (block_runs x (path_below outer branch n) Main 0 (with_name scope i (ControlName Index)) root (InTurn world p outer branch n b scope At i lo hi x) (loop_stands outer branch n b scope root At i lo hi x s) (on_scene (with_control i.id m) q)
           (record { outside = t; at_outside = h; turn_is = m; before = q; comes = z; same = same; state_is = refl })))
       step_runs (Alloc x cell dims memory) b outer branch n scope root At s t h =
           succeeds_some (λ z. Unit {0}) (step world (Alloc x cell dims memory) t) (succeeds_where (λ z. Unit {0}) (all_positive (numbers t.scene dims)) _ (dims_positive w t.scene dims (held outer branch n (Alloc x cell dims memory) b scope root At s t h)) tt)
@@ -232,11 +232,11 @@ module _ (u : Program) (p : Procedure) (may : MayRun u.fields (length u.memories
           let q = and_parts (is_new scope v) (is_window fields scope x cs && nat_lt 0 (spans cs)) (formed_parts outer branch n (View v x cs) b scope root At s).0 in
           let r = and_parts (is_window fields scope x cs) (nat_lt 0 (spans cs)) q.1 in
           let d = s.described t h in
-          let sound = reached_sound (into outer branch n) (next (View v x cs) end) scope t (reaches outer branch n (View v x cs) b scope root At s t h) in
+          let sound = reached_sound (path_below outer branch n) (next (View v x cs) end) scope t (reaches outer branch n (View v x cs) b scope root At s t h) in
           succeeds_some (λ z. Unit {0}) (step world (View v x cs) t) (succeeds_then (IsPart w fields table scope t d sound x cs) (λ z. Unit {0}) (window t.scene x cs) _ (window_there w fields table scope t d sound x cs r.0 (held outer branch n (View v x cs) b scope root At s t h)) (λ seen k. tt))
       step_runs (Call k args) b outer branch n scope root At s t h =
           let r = reaches outer branch n (Call k args) b scope root At s t h in
-          let path = into outer branch n in
+          let path = path_below outer branch n in
           let piece = next (Call k args) end in
           calls_run k args scope root t (s.callees_run k (or_left (k == k) (calls b k) (same_number k))) (formed_parts outer branch n (Call k args) b scope root At s).0
           (reached_sound path piece scope t r) (reached_sorted path piece scope t r) (s.described t h) (reached_roots path piece scope t r)

@@ -4,7 +4,7 @@ use Rattle.std.specs.Prelude.{nat_lt, slice_get}
 use Rattle.std.specs.List.{list_all}
 use Rattle.exo_tree.specs.Tree.{Binder, Kind, Index, Control, Condition, Argument, Statement, Assign, Reduce, Config, Pass, If, For, Alloc, View, Call, Block, end, next, Param, ParamKind, ControlParam, TensorParam, WindowParam, Procedure, Program}
 use Rattle.exo_tree.specs.Context.{Here, After, InLoop, InThen, InElse}
-use Rattle.exo_tree.specs.Places.{Branch, Main, Else, Path, Opened, opened_in, opened}
+use Rattle.exo_tree.specs.Places.{Branch, Main, Else, Path, Opened, opened_in, opened, path_below}
 use Rattle.exo_meaning.specs.Calls.{Callee}
 use Rattle.exo_meaning.specs.Run.{roots_after, kinds_of, callee_in, unit_world, program_world}
 use Rattle.exo_meaning.specs.Orders.{Each}
@@ -14,7 +14,7 @@ use Rattle.affine_places.specs.Roots.{Roots, roots_of}
 use Rattle.text_show.specs.Words.{Words, words_of}
 use Rattle.check_claims.specs.Claim.{Claim, Is, Apart}
 use Rattle.check_claims.specs.Extents.{Extents, span_extents, dims_of, extents_of}
-use Rattle.check_claims.specs.Claims.{at_least_one, written_by, call_claims, write_claims, own_claims, placed_at, into, block_claims, inner_claims, param_claims}
+use Rattle.check_claims.specs.Claims.{at_least_one, written_by, call_claims, write_claims, own_claims, placed_at, block_claims, inner_claims, param_claims}
 use Rattle.check_laws.specs.Claims.Holding.{SaidIsFormed, ClaimIsFormed}
 use Rattle.check_laws.specs.Claims.Laws.{ClaimsAreFormed}
 use Rattle.check_laws.proofs.OfClaims.Basics.{and_parts, no_test, by_test, some_injective, append_assoc}
@@ -32,24 +32,24 @@ module _ (p : Procedure) where
   abbrev Opens : Path → Branch → ℕ → Block → Scope → Type 0
   Opens outer branch n b scope = (k m : ℕ) → n + k ≡ m → (rest : Path) (o : Opened) → opened_in 1 (at_step branch k rest) b ≡ Some o → scope_there p (opened 1 (outer ++ at_step branch m rest) p.body) ≡ scope_at o.around scope
 
-  opens_here : (outer : Path) (branch : Branch) (n : ℕ) (a : Statement) (b : Block) (scope : Scope) → Opens outer branch n (next a b) scope → scope_there p (opened 1 (into outer branch n) p.body) ≡ scope
+  opens_here : (outer : Path) (branch : Branch) (n : ℕ) (a : Statement) (b : Block) (scope : Scope) → Opens outer branch n (next a b) scope → scope_there p (opened 1 (path_below outer branch n) p.body) ≡ scope
   opens_here outer branch n a b scope o = o 0 n (same_zero n) [] (record { around = Here b; piece = next a end }) refl
 
   opens_next : (outer : Path) (branch : Branch) (n : ℕ) (a : Statement) (b : Block) (scope : Scope) → Opens outer branch n (next a b) scope → Opens outer branch (suc n) b (scope_after a scope)
   opens_next outer branch n a b scope f k m e rest o is = f (suc k) m (shifted n k m e) rest (record { around = After a o.around; piece = o.piece }) (opened_next branch k rest a b o is)
 
-  inside : (outer : Path) (branch inner : Branch) (n k m : ℕ) (rest : Path) (scope : Scope) → 0 + k ≡ m → scope_there p (opened 1 (outer ++ at_step branch n (at_step inner k rest)) p.body) ≡ scope → scope_there p (opened 1 (into outer branch n ++ at_step inner m rest) p.body) ≡ scope
+  inside : (outer : Path) (branch inner : Branch) (n k m : ℕ) (rest : Path) (scope : Scope) → 0 + k ≡ m → scope_there p (opened 1 (outer ++ at_step branch n (at_step inner k rest)) p.body) ≡ scope → scope_there p (opened 1 (path_below outer branch n ++ at_step inner m rest) p.body) ≡ scope
   inside outer branch inner n k m rest scope e r =
       subst (λ path. scope_there p (opened 1 path p.body) ≡ scope) (ap (λ i. outer ++ at_step branch n (at_step inner i rest)) (from_zero k m e) ∙ sym (append_assoc outer (at_step branch n []) (at_step inner m rest))) r
 
   module _ (outer : Path) (branch : Branch) (n : ℕ) (rest : Block) (scope : Scope) where
-    opens_then : (c : Condition) (a b : Block) → Opens outer branch n (next (If c a b) rest) scope → Opens (into outer branch n) Main 0 a scope
+    opens_then : (c : Condition) (a b : Block) → Opens outer branch n (next (If c a b) rest) scope → Opens (path_below outer branch n) Main 0 a scope
     opens_then c a b f k m e path o is = inside outer branch Main n k m path (scope_at o.around scope) e (f 0 n (same_zero n) (at_step Main k path) (record { around = InThen c o.around b rest; piece = o.piece }) (ap (option_map (λ (o : Opened). record { around = InThen c o.around b rest; piece = o.piece })) is))
 
-    opens_else : (c : Condition) (a b : Block) → Opens outer branch n (next (If c a b) rest) scope → Opens (into outer branch n) Else 0 b scope
+    opens_else : (c : Condition) (a b : Block) → Opens outer branch n (next (If c a b) rest) scope → Opens (path_below outer branch n) Else 0 b scope
     opens_else c a b f k m e path o is = inside outer branch Else n k m path (scope_at o.around scope) e (f 0 n (same_zero n) (at_step Else k path) (record { around = InElse c a o.around rest; piece = o.piece }) (ap (option_map (λ (o : Opened). record { around = InElse c a o.around rest; piece = o.piece })) is))
 
-    opens_loop : (i : Binder) (lo hi : Control) (b : Block) → Opens outer branch n (next (For i lo hi b) rest) scope → Opens (into outer branch n) Main 0 b (with_name scope i (ControlName Index))
+    opens_loop : (i : Binder) (lo hi : Control) (b : Block) → Opens outer branch n (next (For i lo hi b) rest) scope → Opens (path_below outer branch n) Main 0 b (with_name scope i (ControlName Index))
     opens_loop i lo hi b f k m e path o is = inside outer branch Main n k m path (scope_at o.around (with_name scope i (ControlName Index))) e (f 0 n (same_zero n) (at_step Main k path) (record { around = InLoop i lo hi o.around rest; piece = o.piece }) (ap (option_map (λ (o : Opened). record { around = InLoop i lo hi o.around rest; piece = o.piece })) is))
 
   opens_body : Opens [] Main 0 p.body (scope_of [] p.params)
@@ -210,7 +210,7 @@ module _ (u : Program) (p : Procedure) (may : MayRun u.fields (length u.memories
     block_formed : (b : Block) (outer : Path) (branch : Branch) (n : ℕ) (scope : Scope) (root : ℕ → ℕ) → Opens p outer branch n b scope → is_block fields memories callees scope root b ≡ true → Agrees table b → IsTabled w fields table scope → Each (ClaimIsFormed u p) (block_claims w u table roots outer branch n b)
     block_formed end outer branch n scope root o h agree t = tt
     block_formed (next a b) outer branch n scope root o h agree t =
-        let path = into outer branch n in
+        let path = path_below outer branch n in
         let q = and_parts (is_statement fields memories callees scope root a) (is_block fields memories callees (scope_after a scope) (roots_after a root) b) h in
         each_append (ClaimIsFormed u p) (placed_at path (own_claims w u table roots a) ++ inner_claims w u table roots path a) (block_claims w u table roots outer branch (suc n) b)
         (each_append (ClaimIsFormed u p) (placed_at path (own_claims w u table roots a)) (inner_claims w u table roots path a)
@@ -218,7 +218,7 @@ module _ (u : Program) (p : Procedure) (may : MayRun u.fields (length u.memories
         (inner_formed a b outer branch n scope root o q.0 agree.0 t))
         (block_formed b outer branch (suc n) (scope_after a scope) (roots_after a root) (opens_next p outer branch n a b scope o) q.1 agree.1 (tabled_after w fields table memories callees scope root t a q.0 agree.0))
 
-    inner_formed : (a : Statement) (rest : Block) (outer : Path) (branch : Branch) (n : ℕ) (scope : Scope) (root : ℕ → ℕ) → Opens p outer branch n (next a rest) scope → is_statement fields memories callees scope root a ≡ true → StepAgrees table a → IsTabled w fields table scope → Each (ClaimIsFormed u p) (inner_claims w u table roots (into outer branch n) a)
+    inner_formed : (a : Statement) (rest : Block) (outer : Path) (branch : Branch) (n : ℕ) (scope : Scope) (root : ℕ → ℕ) → Opens p outer branch n (next a rest) scope → is_statement fields memories callees scope root a ≡ true → StepAgrees table a → IsTabled w fields table scope → Each (ClaimIsFormed u p) (inner_claims w u table roots (path_below outer branch n) a)
     inner_formed (Assign x is e) rest outer branch n scope root o h agree t = tt
     inner_formed (Reduce x is e) rest outer branch n scope root o h agree t = tt
     inner_formed (Config f a) rest outer branch n scope root o h agree t = tt
@@ -227,7 +227,7 @@ module _ (u : Program) (p : Procedure) (may : MayRun u.fields (length u.memories
         let q = and_parts (is_condition fields with_fields scope c) ((not (is_empty a) && (is_short a && is_short b)) && (is_block fields memories callees scope root a && is_block fields memories callees scope root b)) h in
         let r = and_parts (not (is_empty a) && (is_short a && is_short b)) (is_block fields memories callees scope root a && is_block fields memories callees scope root b) q.1 in
         let k = and_parts (is_block fields memories callees scope root a) (is_block fields memories callees scope root b) r.1 in
-        let path = into outer branch n in
+        let path = path_below outer branch n in
         each_append (ClaimIsFormed u p) (block_claims w u table roots path Main 0 a) (block_claims w u table roots path Else 0 b)
         (block_formed a path Main 0 scope root (opens_then p outer branch n rest scope c a b o) k.0 agree.0 t)
         (block_formed b path Else 0 scope root (opens_else p outer branch n rest scope c a b o) k.1 agree.1 t)
@@ -238,7 +238,7 @@ module _ (u : Program) (p : Procedure) (may : MayRun u.fields (length u.memories
         let q = and_parts (is_new scope i) (bounds && (shape && is_block fields memories callees inner root b)) h in
         let r = and_parts bounds (shape && is_block fields memories callees inner root b) q.1 in
         let k = and_parts shape (is_block fields memories callees inner root b) r.1 in
-        block_formed b (into outer branch n) Main 0 inner root (opens_loop p outer branch n rest scope i lo hi b o) k.1 agree (control_tabled w fields table scope i Index q.0 t)
+        block_formed b (path_below outer branch n) Main 0 inner root (opens_loop p outer branch n rest scope i lo hi b o) k.1 agree (control_tabled w fields table scope i Index q.0 t)
     inner_formed (Alloc x cell dims memory) rest outer branch n scope root o h agree t = tt
     inner_formed (View v x cs) rest outer branch n scope root o h agree t = tt
     inner_formed (Call k args) rest outer branch n scope root o h agree t = tt

@@ -3,7 +3,7 @@ use Rattle.std.proofs.Common.{◌≡◌, ℕ, suc, ℤ, ◌+◌, true, false, Li
 use Rattle.exo_tree.specs.Tree.{Binder, Index, Control, Condition, Statement, If, For, Block, end, next, Procedure}
 use Rattle.exo_tree.specs.Calls.{call_arguments}
 use Rattle.exo_tree.specs.Context.{Here, After, InLoop, InThen, InElse, fill}
-use Rattle.exo_tree.specs.Places.{Branch, Main, Else, Path, Opened, opened_in, opened}
+use Rattle.exo_tree.specs.Places.{Branch, Main, Else, Path, Opened, opened_in, opened, path_below}
 use Rattle.exo_meaning.specs.Scene.{holds}
 use Rattle.exo_meaning.specs.State.{State, on_scene, with_control}
 use Rattle.exo_meaning.specs.Calls.{are_apart_at}
@@ -15,7 +15,7 @@ use Rattle.meaning_laws.specs.Context.{ComesToTurn, ComesTo}
 use Rattle.meaning_laws.specs.Places.{OpenedLaw}
 use Rattle.meaning_laws.specs.Sorted.{scope_at}
 use Rattle.check_claims.specs.Claim.{Claim, Is, Apart}
-use Rattle.check_claims.specs.Claims.{into, placed_at}
+use Rattle.check_claims.specs.Claims.{placed_at}
 use Rattle.check_laws.specs.Claims.Holding.{SaidHolds, ClaimHolds}
 use Rattle.check_laws.proofs.OfClaims.Basics.{append_assoc, each_of}
 use Rattle.check_laws.proofs.OfClaims.Seen.{IsHeld, Hold, IsKeptApart}
@@ -66,7 +66,7 @@ module _ (world : World) (p : Procedure) where
   abbrev pub Leads : Path → Branch → ℕ → Block → Scope → (State → Type 0) → Type 0
   Leads outer branch n b scope At = (k m : ℕ) → n + k ≡ m → (rest : Path) (o : Opened) → opened_in 1 (record { branch = branch; index = k } ∷ rest) b ≡ Some o → (s t : State) → At s → ComesTo world o.piece o.around s t → Reaches (outer ++ record { branch = branch; index = m } ∷ rest) o.piece (scope_at o.around scope) t
 
-  pub leads_here : (outer : Path) (branch : Branch) (n : ℕ) (a : Statement) (b : Block) (scope : Scope) (At : State → Type 0) → Leads outer branch n (next a b) scope At → (s : State) → At s → Reaches (into outer branch n) (next a end) scope s
+  pub leads_here : (outer : Path) (branch : Branch) (n : ℕ) (a : Statement) (b : Block) (scope : Scope) (At : State → Type 0) → Leads outer branch n (next a b) scope At → (s : State) → At s → Reaches (path_below outer branch n) (next a end) scope s
   leads_here outer branch n a b scope At l s h = l 0 n (same_zero n) [] (record { around = Here b; piece = next a end }) refl s s h refl
 
   -- after a statement
@@ -78,16 +78,16 @@ module _ (world : World) (p : Procedure) where
       l (suc k) m (shifted n k m e) rest (record { around = After a o.around; piece = o.piece }) (opened_next branch k rest a b o is) h.0 t h.1 (s, h.2, come)
 
   -- a place inside the statement at the path
-  inside : (outer : Path) (branch inner : Branch) (n k m : ℕ) (rest : Path) (piece : Block) (scope : Scope) (t : State) → 0 + k ≡ m → Reaches (outer ++ at_step branch n (at_step inner k rest)) piece scope t → Reaches (into outer branch n ++ at_step inner m rest) piece scope t
+  inside : (outer : Path) (branch inner : Branch) (n k m : ℕ) (rest : Path) (piece : Block) (scope : Scope) (t : State) → 0 + k ≡ m → Reaches (outer ++ at_step branch n (at_step inner k rest)) piece scope t → Reaches (path_below outer branch n ++ at_step inner m rest) piece scope t
   inside outer branch inner n k m rest piece scope t e r =
       subst (λ path. Reaches path piece scope t) (ap (λ i. outer ++ at_step branch n (at_step inner i rest)) (from_zero k m e) ∙ sym (append_assoc outer (at_step branch n []) (at_step inner m rest))) r
 
   module _ (outer : Path) (branch : Branch) (n : ℕ) (rest : Block) (scope : Scope) (At : State → Type 0) where
-    pub leads_then : (c : Condition) (a b : Block) → Leads outer branch n (next (If c a b) rest) scope At → Leads (into outer branch n) Main 0 a scope (λ s. At s × (holds s.scene c ≡ true))
+    pub leads_then : (c : Condition) (a b : Block) → Leads outer branch n (next (If c a b) rest) scope At → Leads (path_below outer branch n) Main 0 a scope (λ s. At s × (holds s.scene c ≡ true))
     leads_then c a b l k m e path o is s t h come =
         inside outer branch Main n k m path o.piece (scope_at o.around scope) t e (l 0 n (same_zero n) (at_step Main k path) (record { around = InThen c o.around b rest; piece = o.piece }) (ap (option_map (λ (o : Opened). record { around = InThen c o.around b rest; piece = o.piece })) is) s t h.0 (h.1, come))
 
-    pub leads_else : (c : Condition) (a b : Block) → Leads outer branch n (next (If c a b) rest) scope At → Leads (into outer branch n) Else 0 b scope (λ s. At s × (holds s.scene c ≡ false))
+    pub leads_else : (c : Condition) (a b : Block) → Leads outer branch n (next (If c a b) rest) scope At → Leads (path_below outer branch n) Else 0 b scope (λ s. At s × (holds s.scene c ≡ false))
     leads_else c a b l k m e path o is s t h come =
         inside outer branch Else n k m path o.piece (scope_at o.around scope) t e (l 0 n (same_zero n) (at_step Else k path) (record { around = InElse c a o.around rest; piece = o.piece }) (ap (option_map (λ (o : Opened). record { around = InElse c a o.around rest; piece = o.piece })) is) s t h.0 (h.1, come))
 
@@ -102,7 +102,7 @@ module _ (world : World) (p : Procedure) where
         pub same : SameNames outside.scene before.scene
         pub state_is : s ≡ on_scene (with_control i.id turn_is) before
 
-      pub leads_loop : OpenedLaw → Leads outer branch n (next (For i lo hi b) rest) scope At → Leads (into outer branch n) Main 0 b (with_name scope i (ControlName Index)) InTurn
+      pub leads_loop : OpenedLaw → Leads outer branch n (next (For i lo hi b) rest) scope At → Leads (path_below outer branch n) Main 0 b (with_name scope i (ControlName Index)) InTurn
       leads_loop opened_law l k m e path o is s t h come =
           let body : fill o.around o.piece ≡ b = opened_law 1 (at_step Main k path) b o is in
           let turns : ComesToTurn (turn i.id (run world (fill o.around o.piece))) (turns_of h.outside.scene lo hi) h.outside h.turn_is h.before = subst (λ z. ComesToTurn (turn i.id (run world z)) (turns_of h.outside.scene lo hi) h.outside h.turn_is h.before) (sym body) h.comes in

@@ -10,7 +10,7 @@ use Rattle.rules_names.specs.Resolved.{control_of, condition_of}
 use Rattle.exo_tree.specs.Context.{Here, InLoop}
 use Rattle.exo_tree.specs.Places.{Main, Path, Opened}
 use Rattle.rules_names.specs.Names.{id_in}
-use Rattle.rules_scopes.specs.PlaceScope.{scope_at}
+use Rattle.rules_names.specs.Scopes.PlaceScope.{scope_at}
 use Rattle.exo_types_laws.specs.Strings.Laws.{scope_beside, StandsAt, SameIdsAtPlace}
 use Rattle.exo_types_laws.specs.Strings.Laws.{binders_of, SameNamesAtPlace, SameControlsAtPlace}
 use Rattle.exo_types_laws.specs.Strings.Laws.{SameConditionsAtPlace, ControlsStandAtPlace}

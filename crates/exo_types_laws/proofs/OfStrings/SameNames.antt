@@ -19,9 +19,10 @@ use Rattle.rules_names.specs.ExpressionRules.{joins_conditions}
 use Rattle.rules_names.specs.Names.{named_in, id_of, id_in}
 use Rattle.rules_names.specs.Resolved.{number_of, divisor_of, joined, compared, joined_conditions, control_of}
 use Rattle.rules_names.specs.Resolved.{condition_of}
-use Rattle.rules_scopes.specs.PlaceScope.{naming_params, naming_after, naming_inside, scope_behind}
-use Rattle.rules_scopes.specs.PlaceScope.{before, scope_inside, scope_along, scope_in}
-use Rattle.rules_scopes.specs.PlaceScope as place
+use Rattle.rules_names.specs.Scopes.PlaceScope.{naming_params, naming_after, naming_inside}
+use Rattle.rules_names.specs.Scopes.PlaceScope.{scope_behind}
+use Rattle.rules_names.specs.Scopes.PlaceScope.{before, scope_inside, scope_along, scope_in}
+use Rattle.rules_names.specs.Scopes.PlaceScope as place
 use Rattle.exo_types_laws.specs.Strings.Laws.{binders_of, scope_past, SameNamesAtPlace}
 use Rattle.exo_types_laws.specs.Strings.Laws.{SameIdsAtPlace, SameControlsAtPlace, SameConditionsAtPlace}
 

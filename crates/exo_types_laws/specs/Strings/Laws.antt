@@ -11,7 +11,7 @@ use Rattle.rules_names.specs.Faults.{least}
 use Rattle.rules_names.specs.Laws.{fit}
 use Rattle.rules_names.specs.Names.{id_in}
 use Rattle.rules_names.specs.Resolved.{control_of, condition_of}
-use Rattle.rules_scopes.specs.PlaceScope.{scope_at}
+use Rattle.rules_names.specs.Scopes.PlaceScope.{scope_at}
 
 -- the names without their sorts, the innermost first
 abbrev pub binders_of : Scope → List Binder

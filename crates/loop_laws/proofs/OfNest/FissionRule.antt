@@ -11,7 +11,7 @@ use Rattle.exo_meaning.specs.Orders.{Each}
 use Rattle.exo_meaning.specs.Run.{run}
 use Rattle.place_laws.specs.Scope.Holes.{behind}
 use Rattle.place_laws.specs.Scope.UnrollLoop.{only_loop}
-use Rattle.made_trees.specs.Passes.{or_pass}
+use Rattle.tree_edits.specs.Made.Passes.{or_pass}
 use Rattle.cursor_forward.specs.Shifts.{at_index, alone, range}
 use Rattle.cursor_forward.specs.Forwards.{AreCarried, Carries, are_apart}
 use Rattle.place_laws.specs.Order.TurnsOfTwo.{Loop}

@@ -28,7 +28,7 @@ use Rattle.place_laws.specs.Scope.Scopes.{top_binders}
 use Rattle.place_laws.proofs.OfScope.MayLeave.{may_leave_law, top_has}
 use Rattle.affine_places.specs.Agreement.{agree}
 use Rattle.affine_places.specs.Readings.{extent_reading}
-use Rattle.made_trees.specs.Passes.{or_pass}
+use Rattle.tree_edits.specs.Made.Passes.{or_pass}
 use Rattle.cursor_forward.specs.Shifts.{at_index, alone as alone_at, range}
 use Rattle.cursor_forward.specs.Forwards.{AreCarried, Carries, are_apart}
 use Rattle.place_laws.specs.Order.PartedLoops.{AreUnbound, bound_by, alone, MayFuse}

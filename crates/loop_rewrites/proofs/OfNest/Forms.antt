@@ -14,7 +14,7 @@ use Rattle.cursor_forward.specs.Causes as causes
 use Rattle.cursor_forward.specs.declared.proposal.StepError.TheVariants as errors
 use Rattle.cursor_forward.specs.PlainProposal.{cause_of}
 use Rattle.loop_laws.specs.Bounds.{bounds_differ}
-use Rattle.step_needs.specs.Outcomes.{IsCause}
+use Rattle.step_driver.specs.Needs.Outcomes.{IsCause}
 
 pub both_keep_rules : (a b : Control) → is_affine variables a ≡ true → is_affine variables b ≡ true
     → (keeps_rules a && keeps_rules b) ≡ true

@@ -3,7 +3,7 @@ use Rattle.std.proofs.Common.{◌≡◌, false, List, [], Option, Some, None, ap
 use Rattle.std.specs.Prelude.{is_none}
 use Rattle.cursor_forward.specs.Causes.{Cause}
 use Rattle.step_rules.specs.Rule.{Tried, Got}
-use Rattle.step_needs.specs.Outcomes.{RefusedBy}
+use Rattle.step_driver.specs.Needs.Outcomes.{RefusedBy}
 use Rattle.loop_laws.specs.Shapes.{listed_of}
 
 module _ {U T : Type 0} (list : U → List T) (tried : Tried U) where

@@ -8,7 +8,7 @@ use Rattle.place_laws.specs.Order.TurnsOfTwo.{Loop}
 use Rattle.step_rules.specs.Rule.{Tried, Got, Not}
 use Rattle.step_rules.specs.Answer.{then_try, unless}
 use Rattle.step_rules.specs.Shapes.{tried}
-use Rattle.step_needs.specs.Outcomes.{RefusedBy, IsCause}
+use Rattle.step_driver.specs.Needs.Outcomes.{RefusedBy, IsCause}
 use Rattle.loop_laws.specs.Shapes.{loop_in}
 use Rattle.loop_laws.specs.Bounds.{bounds_differ}
 use Rattle.loop_laws.specs.JoinLoops.{Neighbours, neighbours, have_one_body, meet_in_variables}

@@ -7,7 +7,7 @@ use Rattle.cursor_forward.specs.Causes.{Cause, WrongShape}
 use Rattle.step_rules.specs.Rule.{Tried, Got, Not}
 use Rattle.step_rules.specs.Answer.{then_try, unless}
 use Rattle.step_rules.specs.Shapes.{tried}
-use Rattle.step_needs.specs.Outcomes.{RefusedBy, IsCause}
+use Rattle.step_driver.specs.Needs.Outcomes.{RefusedBy, IsCause}
 use Rattle.loop_laws.specs.Shapes.{loop_in}
 use Rattle.loop_laws.specs.Bounds.{bounds_differ}
 use Rattle.loop_laws.specs.Nest.Fuse.{Two, with_second, two_of, both_are_affine, in_variables}

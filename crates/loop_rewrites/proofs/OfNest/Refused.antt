@@ -2,7 +2,7 @@
 use Rattle.std.proofs.Common.{◌≡◌, ℕ, true, false, List, [], ◌∷◌, Some, None, refl, ap, sym, ◌∙◌}
 use Rattle.exo_tree.specs.Tree.{Block, Program}
 use Rattle.cursor_forward.specs.Causes.{ConfigWrite}
-use Rattle.step_fields.specs.Fields.{some_listed}
+use Rattle.config_state.specs.Steps.Fields.{some_listed}
 use Rattle.loop_laws.specs.Nest.Shapes.{fields_written, refused_for}
 
 listed : (fs : List ℕ) → some_listed fs ≡ true → refused_for fs ≡ Some ConfigWrite

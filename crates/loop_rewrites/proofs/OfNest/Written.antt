@@ -2,7 +2,7 @@
 use Rattle.std.proofs.Common.{◌≡◌, ◌≤◌, ◌<◌, ℕ, Bool, false, not, ◌&&◌, List, arith}
 use Rattle.std.specs.Prelude.{nat_lt}
 use Rattle.config_state.specs.FieldSets.{contains}
-use Rattle.step_fields.specs.Fields.{IsFieldSet}
+use Rattle.config_state.specs.Steps.Fields.{IsFieldSet}
 
 -- a field of the unit is written where it is in the set
 pub in_set : (n f : ℕ) (test : ℕ → Bool) (set : List Bool) (t : Bool) → IsFieldSet n test set → f < n

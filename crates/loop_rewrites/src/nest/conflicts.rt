@@ -2,17 +2,17 @@
 ghost use Rattle.std.specs.Prelude.{◌≡◌, [], ◌∷◌, map, IfOk};
 ghost use Rattle.exo_tree.specs.PlainPlace.{step_taken};
 ghost use Rattle.cursor_forward.specs.Shifts.{at_index};
-ghost use Rattle.exo_conflicts.specs.PlainCopies.{plain_row};
+ghost use Rattle.effect_conflicts.specs.PlainCopies.{plain_row};
 ghost use Rattle.exo_effects.specs.Orders as orders;
 ghost use Rattle.effect_laws.specs.Fits as fits;
 ghost use Rattle.loop_laws.specs.Nest.Shapes.{header_of, step};
-ghost use Rattle.step_needs.specs.PlainNeed.{plain_turns, plain_conflict};
+ghost use Rattle.step_driver.specs.Needs.PlainNeed.{plain_turns, plain_conflict};
 ghost use Rattle.step_targets.specs.PlainLoop.{plain_loop};
 
-use exo_conflicts::OrderRow;
+use effect_conflicts::OrderRow;
 use exo_tree::{Branch, Path, Step};
 use std::alloc::{AllocError, Global};
-use step_needs::{Conflict, Turns};
+use step_driver::needs::{Conflict, Turns};
 use step_targets::{LoopAt, header, path_onward};
 
 /// So many statements from a path on, at a turn of a loop.

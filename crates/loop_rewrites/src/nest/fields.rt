@@ -5,10 +5,10 @@ ghost use Rattle.step_driver.specs.PlainTarget.{target, plain_piece};
 ghost use Rattle.step_driver.specs.Spots.{spot_at};
 ghost use Rattle.step_driver.specs.Tables.{HasTables};
 
+use config_state::steps::writes_some;
 use cursor_forward::StepError;
 use std::alloc::Global;
 use step_driver::{Piece, Target};
-use step_fields::writes_some;
 
 /// `ConfigWrite` where the piece may write a field, directly or by calls.
 #[tactic(auto, using(crate::proofs::OfNest::Refused::some_written, crate::proofs::OfNest::Refused::none_written))]

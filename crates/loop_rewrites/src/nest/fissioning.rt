@@ -3,7 +3,7 @@ ghost use Rattle.std.specs.Prelude.{◌≡◌, map, IfOk, refl};
 ghost use Rattle.loop_laws.specs.Nest.Fission as plain;
 ghost use Rattle.loop_laws.specs.Nest.Fission.{fission_rule};
 ghost use Rattle.loop_laws.proofs.OfNest.FissionRule.{fission_is_lawful, fission_is_carrying};
-ghost use Rattle.step_needs.specs.PlainNeed.{plain_turns, plain_need};
+ghost use Rattle.step_driver.specs.Needs.PlainNeed.{plain_turns, plain_need};
 ghost use Rattle.loop_rewrites.specs.Nest.PlainParting.{plain_parting};
 
 use crate::nest::conflicts::{in_loop, in_one, in_turn, numbered};
@@ -11,13 +11,13 @@ use crate::nest::fields::unless_it_writes;
 use crate::nest::parting::{PartingAt, parting_at};
 use cursor_forward::{Shifts, StepError};
 use exo_tree::{Block, Path};
-use made_trees::Fresh;
 use std::alloc::{AllocError, Global};
+use step_driver::needs::{Need, Turns};
 use step_driver::{Piece, Target, Writing};
-use step_needs::{Need, Turns};
 use step_targets::{
     FIRST, OnPiece, Ruled, alone_to, apart, path_below, path_onward, range_to, statement_count,
 };
+use tree_edits::made::Fresh;
 
 impl PartingAt<'_> {
     /// The second part at a turn.

@@ -3,12 +3,12 @@ ghost use Rattle.std.specs.Prelude.{◌≡◌, IsTrue, map, option_map, IfOk, re
 ghost use Rattle.exo_tree.specs.Tree.{block};
 ghost use Rattle.exo_tree.specs.PlainProcedure.{procedure};
 ghost use Rattle.exo_tree.specs.Renaming as renaming;
-ghost use Rattle.made_trees.specs.Ids.{next_id};
+ghost use Rattle.tree_edits.specs.Made.Ids.{next_id};
 ghost use Rattle.loop_laws.specs.JoinLoops as plain;
 ghost use Rattle.loop_laws.specs.JoinLoops.{join_rule};
 ghost use Rattle.loop_laws.proofs.JoinRule.{join_is_lawful, join_is_carrying};
 ghost use Rattle.step_driver.specs.Outcomes.{Tries};
-ghost use Rattle.step_needs.specs.PlainNeed.{plain_need};
+ghost use Rattle.step_driver.specs.Needs.PlainNeed.{plain_need};
 ghost use Rattle.loop_rewrites.specs.Nest.PlainNeighbours.{plain_neighbours};
 ghost use Rattle.step_targets.specs.PlainLoop.{plain_loop};
 
@@ -16,13 +16,14 @@ use crate::nest::agreeing::unless_they_differ;
 use crate::nest::same::same_block;
 use crate::nest::two::{Loops, loops_of};
 use crate::unrolling::is_memory;
+use affine_places::is_over_variables;
 use cursor_forward::{Shifts, StepError};
 use exo_tree::{Block, Ctrl, Path, Proc};
-use made_trees::Fresh;
 use std::alloc::{AllocError, Global};
+use step_driver::needs::Need;
 use step_driver::{Piece, Target, Writing, stays};
-use step_needs::Need;
-use step_targets::{LoopAt, OnPiece, Plain, at_most, is_over_variables};
+use step_targets::{LoopAt, OnPiece, Plain, at_most};
+use tree_edits::made::Fresh;
 
 /// The two loops that are all of a block; None exactly where it is no two loops.
 #[tactic(auto, using(crate::proofs::OfNest::Neighbouring::neighbours_are_two))]

@@ -11,11 +11,11 @@ ghost use Rattle.step_targets.specs.PlainLoop.{plain_loop};
 ghost use Rattle.loop_rewrites.specs.Nest.PlainParting.{plain_parting};
 
 use exo_tree::Block;
-use made_trees::Fresh;
 use std::alloc::{AllocError, Global};
 use step_driver::{Piece, Target};
 use step_targets::{Left, LoopAt, loop_at};
-use tree_mentions::in_block;
+use tree_edits::made::Fresh;
+use tree_uses::mentions::in_block;
 
 /// A loop, with the two parts of its body.
 #[derive(Drop)]

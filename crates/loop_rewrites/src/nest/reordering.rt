@@ -3,7 +3,7 @@ ghost use Rattle.std.specs.Prelude.{◌≡◌, map, IfOk, refl};
 ghost use Rattle.loop_laws.specs.Nest.ReorderLoops as plain;
 ghost use Rattle.loop_laws.specs.Nest.ReorderLoops.{reorder_rule};
 ghost use Rattle.loop_laws.proofs.OfNest.ReorderLoops.{reorder_is_lawful, reorder_is_carrying};
-ghost use Rattle.step_needs.specs.PlainNeed.{plain_turns, plain_conflict, plain_need};
+ghost use Rattle.step_driver.specs.Needs.PlainNeed.{plain_turns, plain_conflict, plain_need};
 ghost use Rattle.loop_rewrites.specs.Nest.PlainNest.{plain_nest};
 
 use crate::nest::conflicts::{crossing, in_two};
@@ -11,13 +11,13 @@ use crate::nest::fields::unless_it_writes;
 use crate::nest::nests::{NestAt, nest_at};
 use cursor_forward::{Shifts, StepError};
 use exo_tree::{Block, Path};
-use made_trees::Fresh;
 use std::alloc::{AllocError, Global};
+use step_driver::needs::{Conflict, Need, Turns};
 use step_driver::{Piece, Target, Writing};
-use step_needs::{Conflict, Need, Turns};
 use step_targets::{
     FIRST, OnPiece, Ruled, alone_to, apart, path_below, path_onward, range_to, statement_count,
 };
+use tree_edits::made::Fresh;
 
 impl NestAt<'_> {
     /// The body at a turn of both loops.

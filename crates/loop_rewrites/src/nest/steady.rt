@@ -3,18 +3,18 @@ ghost use Rattle.std.specs.Prelude.{◌≡◌, ◌==◌, option_map, option_and_
 ghost use Rattle.exo_tree.specs.Tree.{block};
 ghost use Rattle.exo_tree.specs.PlainStatement.{statement};
 ghost use Rattle.exo_tree.specs.PlainUnit.{program};
-ghost use Rattle.step_fields.specs.Fields.{IsWrittenTable};
+ghost use Rattle.config_state.specs.Steps.Fields.{IsWrittenTable};
 ghost use Rattle.step_rules.specs.Shapes.{alone_in};
 ghost use Rattle.loop_laws.specs.Nest.Fission as plain;
 ghost use Rattle.loop_rewrites.specs.Nest.PlainParting.{plain_parting, plain_write};
 
 use crate::nest::parting::PartingAt;
 use config_state::FieldTable;
+use config_state::steps::may_write;
 use exo_tree::{Arg, Block, FieldId, Id, Stmt, Unit};
 use std::alloc::{AllocError, Global};
-use step_fields::may_write;
 use step_targets::only_statement;
-use tree_mentions::{Names, in_argument};
+use tree_uses::mentions::{Names, in_argument};
 
 /// What a statement writes into a field.
 #[derive(Clone, Copy)]

@@ -9,10 +9,11 @@ ghost use Rattle.step_targets.specs.PlainLoop.{plain_loop};
 ghost use Rattle.loop_rewrites.specs.Nest.PlainTwo.{plain_loops};
 
 use crate::nest::agreeing::unless_they_differ;
+use affine_places::is_over_variables;
 use cursor_forward::StepError;
 use exo_tree::{Block, Ctrl, Stmt, subst};
 use std::alloc::{AllocError, Global};
-use step_targets::{LoopAt, is_over_variables, loop_in};
+use step_targets::{LoopAt, loop_in};
 
 /// A loop and the next one.
 #[derive(Clone, Copy)]

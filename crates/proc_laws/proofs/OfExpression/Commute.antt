@@ -8,8 +8,8 @@ use Rattle.exo_meaning.specs.Scene.{then_do}
 use Rattle.exo_meaning.specs.Value.{Value, on_two}
 use Rattle.exo_meaning.specs.State.{State, value, place, put}
 use Rattle.exo_meaning.specs.Run.{World, run, step}
-use Rattle.cursor_patterns.specs.Patterns.{ExprPattern}
-use Rattle.made_trees.specs.Passes.{or_pass}
+use Rattle.cursor_forward.specs.Search.Patterns.{ExprPattern}
+use Rattle.tree_edits.specs.Made.Passes.{or_pass}
 use Rattle.cursor_forward.specs.Shifts.{stays}
 use Rattle.cursor_forward.specs.Forwards.{bone, Carries}
 use Rattle.step_rules.specs.Lawful.{around, old, world_of, same, IsLawful, IsCarrying}

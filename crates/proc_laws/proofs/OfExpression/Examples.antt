@@ -8,8 +8,8 @@ use Rattle.exo_tree.specs.Places.{Main}
 use Rattle.exo_meaning.specs.Run.{program_world}
 use Rattle.exo_meaning.specs.Inputs.{Refines}
 use Rattle.exo_meaning.specs.Units.{IsUnit}
-use Rattle.cursor_patterns.specs.Patterns as pattern
-use Rattle.cursor_patterns.specs.Patterns.{ExprPattern}
+use Rattle.cursor_forward.specs.Search.Patterns as pattern
+use Rattle.cursor_forward.specs.Search.Patterns.{ExprPattern}
 use Rattle.cursor_forward.specs.Causes.{WrongShape}
 use Rattle.cursor_forward.specs.Cursors.{Before}
 use Rattle.tree_laws.specs.Findings.Versions.{with_version}

@@ -5,7 +5,7 @@ use Rattle.exo_tree.specs.Tree.{Statement, Assign, Reduce, Config, Pass, If, For
 use Rattle.exo_tree.specs.Tree.{Block, end, next}
 use Rattle.exo_tree.specs.Context.{Context}
 use Rattle.exo_tree.specs.Places.{Main}
-use Rattle.made_trees.specs.Passes.{or_pass}
+use Rattle.tree_edits.specs.Made.Passes.{or_pass}
 use Rattle.cursor_forward.specs.Forwards.{Carries}
 use Rattle.step_rules.proofs.Shapes.{or_pass_next}
 use Rattle.exo_meaning.specs.Scene.{then_do, holds}

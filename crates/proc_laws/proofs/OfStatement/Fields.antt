@@ -16,7 +16,8 @@ use Rattle.meaning_laws.specs.UnitFields.{written_at, written_by, all_written, u
 use Rattle.meaning_laws.proofs.Scoped.{or_elim}
 use Rattle.meaning_laws.proofs.Substitute.{and_parts}
 use Rattle.config_state.specs.FieldSets.{fields_from}
-use Rattle.proc_laws.specs.Statement.Fields.{some_listed, some_field}
+use Rattle.config_state.specs.Steps.Fields.{some_listed}
+use Rattle.proc_laws.specs.Statement.Fields.{some_field}
 
 -- ---- a test that no field passes
 

@@ -25,7 +25,7 @@ use Rattle.place_laws.specs.Scope.Roots.{own_roots_at}
 use Rattle.place_laws.specs.Scope.UnrollLoop.{only_loop}
 use Rattle.place_laws.proofs.OfScope.BranchesAtPlaces.{lift_law}
 use Rattle.place_laws.proofs.OfScope.Turns.{lift_then_law, steady_in_loop_law, swap_branches_law}
-use Rattle.made_trees.specs.Passes.{or_pass}
+use Rattle.tree_edits.specs.Made.Passes.{or_pass}
 use Rattle.cursor_forward.specs.Causes.{ConfigWrite}
 use Rattle.cursor_forward.specs.Forwards.{Carries, are_apart}
 use Rattle.place_laws.specs.Order.TurnsOfTwo.{Loop}

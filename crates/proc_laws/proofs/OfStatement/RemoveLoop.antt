@@ -32,7 +32,7 @@ use Rattle.place_laws.specs.Scope.Scopes.{HasNone, top_binders}
 use Rattle.place_laws.proofs.OfScope.MadeCopies.{true_by}
 use Rattle.place_laws.proofs.OfScope.MayLeave.{may_leave_law, top_has}
 use Rattle.place_laws.proofs.OfScope.Opened.{block_may_open, same_refines}
-use Rattle.made_trees.specs.Passes.{or_pass}
+use Rattle.tree_edits.specs.Made.Passes.{or_pass}
 use Rattle.check_laws.specs.Facts.Laws.{ComesToPlace}
 use Rattle.cursor_forward.specs.Causes.{NotIdempotent}
 use Rattle.cursor_forward.specs.Forwards.{Carries, are_apart, bones}

@@ -34,7 +34,7 @@ use Rattle.place_laws.proofs.OfScope.Narrower.{before_narrower, roots_before, kn
 use Rattle.place_laws.proofs.OfScope.Narrower.{narrower_keeps}
 use Rattle.place_laws.proofs.OfScope.PlacesCompose.{places_compose}
 use Rattle.place_laws.proofs.OfScope.SamePlace.{same_place}
-use Rattle.made_trees.specs.Passes.{or_pass}
+use Rattle.tree_edits.specs.Made.Passes.{or_pass}
 use Rattle.check_laws.specs.Facts.Laws.{ComesToPlace}
 use Rattle.cursor_forward.specs.Causes.{ConfigWrite}
 use Rattle.cursor_forward.specs.Forwards.{Carries}

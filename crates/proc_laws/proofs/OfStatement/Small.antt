@@ -12,7 +12,7 @@ use Rattle.exo_meaning.specs.Run.{program_world, run, tensor}
 use Rattle.exo_meaning.specs.Units.{field_kind, IsProcedure}
 use Rattle.affine_forms.specs.Affine.{dot}
 use Rattle.affine_systems.specs.Outcomes.{Owed}
-use Rattle.made_trees.specs.Ids.{next_id}
+use Rattle.tree_edits.specs.Made.Ids.{next_id}
 use Rattle.cursor_forward.specs.Cursors.{Before}
 use Rattle.cursor_forward.specs.Proposals.{Plan}
 use Rattle.cursor_forward.specs.Shifts.{Shift, at_index, edits_of}

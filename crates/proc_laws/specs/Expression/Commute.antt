@@ -3,8 +3,8 @@ use Rattle.std.specs.Prelude.{ℕ, nat_lt, if◌then◌else◌, Option, Some, No
 use Rattle.std.specs.Prelude.{option_and_then}
 use Rattle.exo_tree.specs.Tree.{Datum, Statement, Assign, Reduce, Config, Pass, If, For, Alloc}
 use Rattle.exo_tree.specs.Tree.{View, Call, Block, end, next}
-use Rattle.cursor_patterns.specs.Patterns as pattern
-use Rattle.cursor_patterns.specs.Patterns.{ExprForm, ExprPattern}
+use Rattle.cursor_forward.specs.Search.Patterns as pattern
+use Rattle.cursor_forward.specs.Search.Patterns.{ExprForm, ExprPattern}
 use Rattle.cursor_forward.specs.Shifts.{stays}
 use Rattle.step_rules.specs.Rule.{Rule, plain_rule}
 use Rattle.step_rules.specs.Shapes.{tried, alone_in, one_statement}

@@ -1,6 +1,7 @@
 -- The rules that take away what is never run: the branch of a condition that is never taken, and a
 -- loop that has no turn.
 use Rattle.std.specs.Prelude.{List, [], ◌∷◌, length, Option, Some, None, option_and_then}
+use Rattle.proc_laws.specs.Expression.Passes.{or_one_pass}
 use Rattle.exo_tree.specs.Tree.{Condition, Le, Statement, Assign, Reduce, Config, Pass, If, For}
 use Rattle.exo_tree.specs.Tree.{Alloc, View, Call, Block, end, next, statements}
 use Rattle.exo_tree.specs.Places.{Branch, Main, Else, Path}
@@ -47,9 +48,6 @@ abbrev pub kept_needs : Branch → Path → Fork → List Need
 kept_needs keep at k = Says at (taken keep k.test) ∷ []
 
 -- a `pass` for a branch that is missing
-abbrev pub or_one_pass : Block → Block
-or_one_pass end = next Pass end
-or_one_pass (next a b) = next a b
 
 abbrev pub kept : Branch → Fork → Block
 kept keep k = or_one_pass (branch_at keep k)

@@ -2,7 +2,7 @@
 // nothing to do.
 
 ghost use Rattle.std.specs.Prelude.{ℕ, List};
-ghost use Rattle.cursor_patterns.specs.Patterns.{ExprPattern};
+ghost use Rattle.cursor_forward.specs.Search.Patterns.{ExprPattern};
 ghost use Rattle.step_rules.specs.Lawful.{IsLawful, IsCarrying};
 ghost use Rattle.proc_laws.specs.Expression.Commute.{commute_rule};
 ghost use Rattle.proc_laws.specs.Expression.Passes.{delete_pass_rule};

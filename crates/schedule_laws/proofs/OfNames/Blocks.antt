@@ -5,13 +5,14 @@ use Rattle.exo_tree.specs.Tree.{Binder, Statement, Assign, Reduce, Config, Pass,
 use Rattle.exo_tree.specs.Tree.{View, Call, Block, end, next, joined}
 use Rattle.exo_tree.specs.Context.{Context, Here, After, InLoop, InThen, InElse, fill}
 use Rattle.exo_tree.specs.Mapped.{Leaves, mapped_statement, mapped_block}
-use Rattle.text_show_laws.specs.Names.{IsName, Each}
-use Rattle.text_show_laws.specs.Named.{IsNamedStatement, IsNamedBlock}
-use Rattle.text_show_laws.proofs.Each.{each_more}
-use Rattle.made_trees.specs.Passes.{or_pass, is_alone}
-use Rattle.made_trees.specs.Names.{Naming, free_name, first_free, name_given, with_binder}
-use Rattle.made_trees.specs.Names.{Tops, tops, name_statement, name_statements, closed, named_by}
-use Rattle.made_trees.specs.Names.{with_names, first_naming, is_in}
+use Rattle.exo_types_laws.specs.Shown.Names.{IsName, Each}
+use Rattle.exo_types_laws.specs.Shown.Named.{IsNamedStatement, IsNamedBlock}
+use Rattle.exo_types_laws.proofs.OfShown.Each.{each_more}
+use Rattle.tree_edits.specs.Made.Passes.{or_pass, is_alone}
+use Rattle.tree_edits.specs.Made.Names.{Naming, free_name, first_free, name_given, with_binder}
+use Rattle.tree_edits.specs.Made.Names.{Tops, tops, name_statement, name_statements, closed}
+use Rattle.tree_edits.specs.Made.Names.{named_by}
+use Rattle.tree_edits.specs.Made.Names.{with_names, first_naming, is_in}
 use Rattle.schedule_laws.specs.Names.Rules.{CopiesAreNamed}
 use Rattle.schedule_laws.proofs.OfNames.Numbered.{numbered_is_name}
 

@@ -1,13 +1,14 @@
 -- The rules of operators on buffers give names of the grammar.
 use Rattle.std.proofs.Common.{◌≡◌, ℕ, Bool, true, false, List, [], ◌∷◌, Some, ap}
+use Rattle.proc_laws.specs.Expression.Passes.{or_one_pass}
 use Rattle.std.proofs.Common.{◌∙◌, subst}
 use Rattle.exo_tree.specs.Tree.{Control, Argument, Window, At, Statement, Assign, Reduce, Config}
 use Rattle.exo_tree.specs.Tree.{Pass, If, For, Alloc, View}
 use Rattle.exo_tree.specs.Tree.{Call, Block, end, next, joined}
 use Rattle.exo_tree.specs.Places.{Branch, Main, Else}
 use Rattle.inplace_laws.specs.Windows.{in_block, in_statement}
-use Rattle.text_show_laws.specs.Names.{IsName}
-use Rattle.text_show_laws.specs.Named.{IsNamedStatement, IsNamedBlock}
+use Rattle.exo_types_laws.specs.Shown.Names.{IsName}
+use Rattle.exo_types_laws.specs.Shown.Named.{IsNamedStatement, IsNamedBlock}
 use Rattle.buffer_laws.specs.Bound.{stores}
 use Rattle.buffer_laws.specs.Buffers.{Buffer, allocation, only_buffer, in_memory}
 use Rattle.buffer_laws.specs.Expanded.{expanded}
@@ -17,7 +18,7 @@ use Rattle.step_rules.proofs.Shapes.{made_of}
 use Rattle.schedule_laws.specs.Names.Rules.{IsNaming}
 use Rattle.alloc_laws.specs.Allocations.{alloc_of, memory_rule, delete_rule}
 use Rattle.alloc_laws.specs.Expanding.{Allocated, expandable, expand_rule}
-use Rattle.alloc_laws.specs.Lifting.{Inner, inner_of, lifting_of, or_one_pass, lifted, lift_rule}
+use Rattle.alloc_laws.specs.Lifting.{Inner, inner_of, lifting_of, lifted, lift_rule}
 use Rattle.alloc_laws.proofs.Memory.{alloc_is}
 use Rattle.alloc_laws.proofs.Lifting.{lifting_is}
 use Rattle.alloc_laws.proofs.Expanding.{expandable_is}

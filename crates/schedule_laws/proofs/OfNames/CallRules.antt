@@ -6,8 +6,9 @@ use Rattle.std.specs.Prelude.{slice_get}
 use Rattle.exo_tree.specs.Tree.{Argument, Statement, Assign, Reduce, Config, Pass, If, For, Alloc}
 use Rattle.exo_tree.specs.Tree.{View, Call, Block, end, next, Procedure, Window}
 use Rattle.exo_tree.specs.Renaming.{fresh_id}
-use Rattle.text_show_laws.specs.Named.{IsNamedStatement, IsNamedBlock, IsNamedProcedure, AreNamed}
-use Rattle.text_show_laws.proofs.Each.{each_at}
+use Rattle.exo_types_laws.specs.Shown.Named.{IsNamedStatement, IsNamedBlock, IsNamedProcedure}
+use Rattle.exo_types_laws.specs.Shown.Named.{AreNamed}
+use Rattle.exo_types_laws.proofs.OfShown.Each.{each_at}
 use Rattle.match_laws.specs.Inline.AtOnce.{Put, puts}
 use Rattle.match_laws.specs.Inline.FreshCallee.{ids_of}
 use Rattle.match_laws.specs.Inline.InlineRule.{Called, called_in, with_fresh_ids}
@@ -17,11 +18,11 @@ use Rattle.step_rules.specs.Answer.{then_try}
 use Rattle.step_rules.specs.Lawful.{old}
 use Rattle.step_rules.proofs.Shapes.{made_of}
 use Rattle.loop_laws.proofs.Sites.{found_then}
-use Rattle.call_laws.specs.Here.{inlined_by}
-use Rattle.call_laws.specs.Inline.{inlined_there, inline_rule}
-use Rattle.call_laws.specs.InlineWindow.{inline_window_rule}
-use Rattle.call_laws.specs.Puts.{put_under_statement, put_under, after}
-use Rattle.unify_laws.specs.Replace.Rule.{said, replace_rule}
+use Rattle.call_laws.specs.Calls.Here.{inlined_by}
+use Rattle.call_laws.specs.Calls.Inline.{inlined_there, inline_rule}
+use Rattle.call_laws.specs.Calls.InlineWindow.{inline_window_rule}
+use Rattle.call_laws.specs.Calls.Puts.{put_under_statement, put_under, after}
+use Rattle.call_laws.specs.Replace.Rule.{said, replace_rule}
 use Rattle.schedule_laws.specs.Names.Rules.{IsNaming}
 use Rattle.schedule_laws.proofs.OfNames.LoopRules.{some_same, got_same}
 use Rattle.schedule_laws.proofs.OfNames.BufferRules.{at_named}

@@ -2,7 +2,7 @@
 use Rattle.std.proofs.Common.{◌≡◌, ℕ, List, sym, subst}
 use Rattle.exo_tree.specs.Tree.{Argument, Block}
 use Rattle.exo_tree.specs.Places.{Opened}
-use Rattle.text_show_laws.specs.Named.{IsNamedBlock}
+use Rattle.exo_types_laws.specs.Shown.Named.{IsNamedBlock}
 use Rattle.config_laws.specs.FieldRule as config
 use Rattle.config_laws.specs.FieldRule.{FieldRule, Side}
 use Rattle.config_laws.specs.WriteConfig.{write_config}
@@ -11,11 +11,11 @@ use Rattle.config_laws.specs.BindConfig.{bind_config}
 use Rattle.config_laws.specs.CallEqv.{call_eqv}
 use Rattle.config_laws.proofs.Proposed.{got_injective}
 use Rattle.step_rules.specs.Rule.{Target}
-use Rattle.field_laws.specs.FieldRules.{of_field_rule, write_rule, delete_rule, bind_rule}
-use Rattle.field_laws.specs.FieldRules.{version_rule}
-use Rattle.field_laws.proofs.Stand.{tried_of}
-use Rattle.field_laws.proofs.Rules.{bound_made}
-use Rattle.field_laws.proofs.Version.{call_made}
+use Rattle.call_laws.specs.Fields.FieldRules.{of_field_rule, write_rule, delete_rule, bind_rule}
+use Rattle.call_laws.specs.Fields.FieldRules.{version_rule}
+use Rattle.call_laws.proofs.OfFields.Stand.{tried_of}
+use Rattle.call_laws.proofs.OfFields.Rules.{bound_made}
+use Rattle.call_laws.proofs.OfFields.Version.{call_made}
 use Rattle.schedule_laws.specs.Names.Rules.{IsNaming}
 
 field_names : (rule : Target → FieldRule)

@@ -3,8 +3,8 @@ use Rattle.std.proofs.Common.{◌≡◌, None, pos, refl, codes}
 use Rattle.exo_tree.specs.Tree.{Lit}
 use Rattle.exo_meaning.specs.Orders.{Each}
 use Rattle.text_lexer.specs.Piece.{word_of}
-use Rattle.text_show_laws.specs.Names.{IsName}
-use Rattle.text_show_laws.specs.Named.{AreNamed}
+use Rattle.exo_types_laws.specs.Shown.Names.{IsName}
+use Rattle.exo_types_laws.specs.Shown.Named.{AreNamed}
 use Rattle.schedule_laws.specs.Operators.Instance.{unit, schedule, result, ScheduleInstance}
 use Rattle.schedule_laws.specs.Operators.LoopInstance as loops
 use Rattle.schedule_laws.specs.Operators.OrderInstance as orders

@@ -6,13 +6,13 @@ use Rattle.exo_tree.specs.Tree.{Control, Condition, Datum, Statement, Assign, Re
 use Rattle.exo_tree.specs.Tree.{If, For, Alloc, View, Call, Block, end, next}
 use Rattle.exo_tree.specs.Renaming.{renaming, fresh, fresh_id, binders}
 use Rattle.exo_tree.specs.Substitution.{replacing, in_block}
-use Rattle.text_show_laws.specs.Names.{IsName, Each}
-use Rattle.text_show_laws.specs.Named.{IsNamedStatement, IsNamedBlock}
+use Rattle.exo_types_laws.specs.Shown.Names.{IsName, Each}
+use Rattle.exo_types_laws.specs.Shown.Named.{IsNamedStatement, IsNamedBlock}
 use Rattle.meaning_laws.specs.FreshCopies.{copies_from}
 use Rattle.place_laws.specs.Scope.Scopes.{joined_all}
 use Rattle.place_laws.specs.Order.TurnsOfTwo.{Loop}
 use Rattle.match_laws.specs.Simplify.Simplified.{literal}
-use Rattle.cursor_patterns.specs.Patterns.{ExprPattern}
+use Rattle.cursor_forward.specs.Search.Patterns.{ExprPattern}
 use Rattle.cursor_forward.specs.Causes.{LimitPassed}
 use Rattle.cursor_forward.specs.Shifts.{Shift, stays}
 use Rattle.step_rules.specs.Rule.{Got, Not}

@@ -11,8 +11,8 @@ use Rattle.text_lexer.specs.Bytes.{goes_on_name}
 use Rattle.text_lexer.specs.Piece.{word_of}
 use Rattle.text_lexer.specs.declared.token.Word.{Word}
 use Rattle.text_lexer.specs.declared.token.Word.TheVariants as w
-use Rattle.text_show_laws.specs.Names.{IsName, AreNameBytes, BeginsName, Each}
-use Rattle.made_trees.specs.Names.{numbered}
+use Rattle.exo_types_laws.specs.Shown.Names.{IsName, AreNameBytes, BeginsName, Each}
+use Rattle.tree_edits.specs.Made.Names.{numbered}
 
 -- ---- digits
 

@@ -7,7 +7,7 @@ use Rattle.exo_tree.specs.Tree.{Call, Block, end, next}
 use Rattle.exo_tree.specs.Places.{Branch, Main, Else, parted}
 use Rattle.exo_meaning.specs.Unseen.{in_statement, in_block as mentions}
 use Rattle.meaning_laws.specs.Sound.{binds}
-use Rattle.text_show_laws.specs.Named.{IsNamedStatement, IsNamedBlock}
+use Rattle.exo_types_laws.specs.Shown.Named.{IsNamedStatement, IsNamedBlock}
 use Rattle.place_laws.specs.Scope.UnrollLoop.{only_loop}
 use Rattle.place_laws.specs.Order.Reorder.{pair}
 use Rattle.place_laws.specs.Order.TurnsOfTwo.{Loop}
@@ -25,12 +25,13 @@ use Rattle.loop_laws.specs.Nest.Fuse.{Two, with_second, two_of, both_are_affine,
 use Rattle.loop_laws.specs.Nest.Fuse.{where_they_agree, fusing, second_body, fused, fuse_rule}
 use Rattle.loop_laws.specs.Nest.ReorderLoops as loops
 use Rattle.loop_laws.specs.Nest.ReorderLoops.{Nest, bounds_lack, with_inner, nest_of, turned}
-use Rattle.proc_laws.specs.Statement.DeadCode.{Fork, fork_in, fork_of, branch_at, or_one_pass, kept}
+use Rattle.proc_laws.specs.Statement.DeadCode.{Fork, fork_in, fork_of, branch_at, kept}
 use Rattle.proc_laws.specs.Statement.DeadCode.{keep_rule, empty_loop_rule}
 use Rattle.proc_laws.specs.Statement.RemoveLoop.{without_variable, removable, out_of_loop, remove_rule}
 use Rattle.proc_laws.specs.Statement.ReorderStatements as statements
 use Rattle.proc_laws.specs.Statement.ReorderStatements.{Neighbours, both_of, unbound_by_first}
 use Rattle.proc_laws.specs.Statement.ReorderStatements.{neighbours_of}
+use Rattle.proc_laws.specs.Expression.Passes.{or_one_pass}
 use Rattle.schedule_laws.specs.Names.Rules.{IsNaming}
 use Rattle.schedule_laws.proofs.OfNames.Blocks.{joined_named}
 use Rattle.schedule_laws.proofs.OfNames.LoopRules.{got_same, some_same, replaced_named, fresh_named}

@@ -2,9 +2,9 @@
 use Rattle.std.proofs.Common.{◌+◌, sym, subst}
 use Rattle.exo_tree.specs.Context.{fill}
 use Rattle.exo_tree.proofs.Heights.{opened_whole}
-use Rattle.text_show_laws.specs.Named.{IsNamedBlock, IsNamedProcedure}
-use Rattle.made_trees.specs.Ids.{next_id}
-use Rattle.made_trees.specs.Passes.{or_pass}
+use Rattle.exo_types_laws.specs.Shown.Named.{IsNamedBlock, IsNamedProcedure}
+use Rattle.tree_edits.specs.Made.Ids.{next_id}
+use Rattle.tree_edits.specs.Made.Passes.{or_pass}
 use Rattle.cursor_forward.specs.Proposals.{Plan}
 use Rattle.step_rules.specs.Rule.{Simplified}
 use Rattle.step_rules.specs.Answer.{body_with, spot}

@@ -3,12 +3,12 @@ use Rattle.std.proofs.Common.{◌≡◌, ◌+◌, ℕ, Bool, true, false, List, 
 use Rattle.std.proofs.Common.{Option, Some, None, refl, subst, if◌then◌else◌}
 use Rattle.exo_tree.specs.Tree.{Procedure}
 use Rattle.exo_meaning.specs.Orders.{Each}
-use Rattle.text_show_laws.specs.Named.{IsNamedProcedure, AreNamed}
-use Rattle.text_show_laws.proofs.Each.{each_more, each_at}
+use Rattle.exo_types_laws.specs.Shown.Named.{IsNamedProcedure, AreNamed}
+use Rattle.exo_types_laws.proofs.OfShown.Each.{each_more, each_at}
 use Rattle.bounds_check.specs.Obligations.{Fault, list_fault}
 use Rattle.unit_check.specs.Checked as unit_check
 use Rattle.unit_check.specs.Checked.{first_open}
-use Rattle.cursor_patterns.specs.Patterns.{Pattern}
+use Rattle.cursor_forward.specs.Search.Patterns.{Pattern}
 use Rattle.cursor_forward.specs.Cursors.{Cursor}
 use Rattle.cursor_forward.specs.Proposals.{Plan}
 use Rattle.tree_laws.specs.Findings.Versions.{with_version}

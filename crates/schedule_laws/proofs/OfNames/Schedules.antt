@@ -4,10 +4,10 @@ use Rattle.std.proofs.Common.{Some, None, refl, sym, subst, ◌∙◌, true≢fa
 use Rattle.std.proofs.lemmas.List.Sums.{take_while-cons}
 use Rattle.exo_meaning.specs.Orders.{Each}
 use Rattle.text_lexer.specs.Bytes.{goes_on_name}
-use Rattle.text_show_laws.specs.Names.{IsName, BeginsName, AreNameBytes}
-use Rattle.text_show_laws.specs.Naming.{NamedUnitsAreWritable}
+use Rattle.exo_types_laws.specs.Shown.Names.{IsName, BeginsName, AreNameBytes}
+use Rattle.exo_types_laws.specs.Shown.Naming.{NamedUnitsAreWritable}
 use Rattle.schedule_text.specs.Tree as tree
-use Rattle.schedule_patterns.specs.Names as pattern
+use Rattle.schedule_text.specs.Patterns.Names as pattern
 use Rattle.schedule_calls.specs.declared.operator.ChangeOperator.{ChangeOperator}
 use Rattle.schedule_calls.specs.declared.operator.Operator.{Operator}
 use Rattle.schedule_calls.specs.Requests.{Change, Operation, Request, Apply, Search, Moved, Emit}

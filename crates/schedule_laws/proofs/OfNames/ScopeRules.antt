@@ -5,8 +5,8 @@ use Rattle.std.proofs.Common.{Option, Some, None, option_map, option_and_then, s
 use Rattle.exo_tree.specs.Tree.{Condition, Statement, Assign, Reduce, Config, Pass, If, For, Alloc}
 use Rattle.exo_tree.specs.Tree.{View, Call, Block, end, next}
 use Rattle.exo_meaning.specs.Unseen.{in_condition}
-use Rattle.text_show_laws.specs.Names.{IsName}
-use Rattle.text_show_laws.specs.Named.{IsNamedStatement, IsNamedBlock}
+use Rattle.exo_types_laws.specs.Shown.Names.{IsName}
+use Rattle.exo_types_laws.specs.Shown.Named.{IsNamedStatement, IsNamedBlock}
 use Rattle.place_laws.specs.Order.TurnsOfTwo.{Loop}
 use Rattle.cursor_forward.specs.Causes.{WrongShape, Form, WideNumber}
 use Rattle.step_rules.specs.Rule.{Got, Not}

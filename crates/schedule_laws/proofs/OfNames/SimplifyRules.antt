@@ -3,11 +3,11 @@ use Rattle.std.proofs.Common.{◌≡◌, ℕ, Bool, true, false, subst}
 use Rattle.std.specs.Prelude.{if◌then◌else◌}
 use Rattle.exo_tree.specs.Tree.{Control, Statement, Assign, Reduce, Config, Pass, If, For, Alloc}
 use Rattle.exo_tree.specs.Tree.{View, Call, Block, end, next}
-use Rattle.text_show_laws.specs.Named.{IsNamedStatement, IsNamedBlock}
+use Rattle.exo_types_laws.specs.Shown.Named.{IsNamedStatement, IsNamedBlock}
 use Rattle.match_laws.specs.Simplify.SameControls.{in_statement, in_block}
 use Rattle.cursor_forward.specs.Causes.{WideNumber, Form}
 use Rattle.step_rules.specs.Rule.{Got, Not, Spot, Writing, AsMade, Simplified}
-use Rattle.unify_laws.specs.Simplify.{simpler, reading_of, all_fit, simplify_draft, simplify_rule}
+use Rattle.call_laws.specs.Simplify.{simpler, reading_of, all_fit, simplify_draft, simplify_rule}
 use Rattle.schedule_laws.specs.Names.Rules.{IsNaming}
 use Rattle.schedule_laws.proofs.OfNames.LoopRules.{got_same}
 

@@ -8,8 +8,8 @@ use Rattle.std.specs.Prelude.{codes}
 use Rattle.std.specs.Fmt.{digit_glyph}
 use Rattle.exo_tree.specs.Tree.{Control, Coord, Datum, Read, Statement, Assign, Reduce, Config, Pass}
 use Rattle.exo_tree.specs.Tree.{If, For, Alloc, View, Call, Block, end, next, joined}
-use Rattle.text_show_laws.specs.Names.{IsName, Each}
-use Rattle.text_show_laws.specs.Named.{IsNamedStatement, IsNamedBlock}
+use Rattle.exo_types_laws.specs.Shown.Names.{IsName, Each}
+use Rattle.exo_types_laws.specs.Shown.Named.{IsNamedStatement, IsNamedBlock}
 use Rattle.inplace_laws.specs.Filled.{Loop, nest}
 use Rattle.buffer_laws.specs.Simplified.{simplified, simplified_statement}
 use Rattle.buffer_laws.specs.StageMem.{Staging, loop_name, loops_over, loads, stores, loading, storing}

@@ -28,12 +28,12 @@ use Rattle.alloc_laws.specs.Lifting as allocs
 use Rattle.alloc_laws.specs.Expanding.{expand_rule}
 use Rattle.alloc_laws.specs.Bind.Binding as parts
 use Rattle.alloc_laws.specs.Stage.Staging.{stage_rule}
-use Rattle.call_laws.specs.Inline.{inline_rule}
-use Rattle.call_laws.specs.InlineWindow.{inline_window_rule}
-use Rattle.unify_laws.specs.Simplify.{simplify_rule}
-use Rattle.unify_laws.specs.Replace.Rule.{replace_rule}
-use Rattle.field_laws.specs.FieldRules as fields
-use Rattle.field_laws.specs.FieldRules.{write_rule, version_rule}
+use Rattle.call_laws.specs.Calls.Inline.{inline_rule}
+use Rattle.call_laws.specs.Calls.InlineWindow.{inline_window_rule}
+use Rattle.call_laws.specs.Simplify.{simplify_rule}
+use Rattle.call_laws.specs.Replace.Rule.{replace_rule}
+use Rattle.call_laws.specs.Fields.FieldRules as fields
+use Rattle.call_laws.specs.Fields.FieldRules.{write_rule, version_rule}
 use Rattle.schedule_calls.specs.declared.operator.CursorOperator.{CursorOperator}
 use Rattle.schedule_calls.specs.declared.operator.CursorOperator.TheVariants as alone
 use Rattle.schedule_calls.specs.declared.operator.ControlOperator.{ControlOperator}

@@ -6,7 +6,7 @@ use Rattle.std.specs.Fmt.{digits}
 use Rattle.exo_tree.specs.Tree.{Procedure}
 use Rattle.affine_prover.specs.Elimination.{verdict_on, verdict_on_rows, round, reduced, normalized}
 use Rattle.exo_meaning.specs.Units.{IsUnit}
-use Rattle.made_trees.specs.Ids.{next_id}
+use Rattle.tree_edits.specs.Made.Ids.{next_id}
 use Rattle.unit_check.specs.Laws.{CheckedUnitsDoNotFault}
 use Rattle.schedule_laws.specs.Versions.Versions.{started}
 use Rattle.schedule_laws.specs.Versions.Laws.{HasRoom}

@@ -8,7 +8,7 @@ use Rattle.config_laws.specs.WriteConfig.{write_config}
 use Rattle.config_laws.specs.DeleteConfig.{delete_config}
 use Rattle.config_laws.specs.BindConfig.{bind_config}
 use Rattle.config_laws.specs.CallEqv.{call_eqv}
-use Rattle.field_laws.specs.FieldRules.{FieldsAreThere}
+use Rattle.call_laws.specs.Fields.FieldRules.{FieldsAreThere}
 use Rattle.schedule_calls.specs.Requests.{Change, Alone, WithControl, WithWord, MultLoops}
 use Rattle.schedule_calls.specs.Requests.{Specialize, CommuteExpr, BindExpr, ExpandDim, StageMem}
 use Rattle.schedule_calls.specs.Requests.{WriteConfig, BindConfig, DivideLoop, EliminateDeadCode}

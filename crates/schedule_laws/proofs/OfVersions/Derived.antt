@@ -17,7 +17,7 @@ use Rattle.affine_prover.specs.Laws.{ShownSystemsHaveNoPoint}
 use Rattle.bounds_check.specs.Obligations.{obligations_of}
 use Rattle.unit_check.specs.Checked.{first_open}
 use Rattle.unit_check.specs.Faults.{NothingFaults}
-use Rattle.made_trees.specs.Ids.{next_id}
+use Rattle.tree_edits.specs.Made.Ids.{next_id}
 use Rattle.config_laws.specs.Differing.{Origin, step_fields, DescendantsRefine}
 use Rattle.config_laws.specs.FieldRule.{fields_at_end, not_again, surely_from}
 use Rattle.config_laws.proofs.Grown.{step_fields_grown}

@@ -15,12 +15,12 @@ use Rattle.config_laws.specs.FieldRule.{fields_at_end}
 use Rattle.bounds_check.specs.Obligations.{Fault, list_fault}
 use Rattle.unit_check.specs.Checked as unit_check
 use Rattle.unit_check.specs.Checked.{first_open}
-use Rattle.cursor_patterns.specs.Patterns.{Pattern}
+use Rattle.cursor_forward.specs.Search.Patterns.{Pattern}
 use Rattle.cursor_forward.specs.Cursors.{Cursor}
 use Rattle.cursor_forward.specs.Proposals.{Plan}
-use Rattle.made_trees.specs.Ids.{above_all, next_id}
-use Rattle.tree_rules.specs.Classes.{all_kept, limit}
-use Rattle.tree_rules.specs.Findings.{findings_of_body}
+use Rattle.tree_edits.specs.Made.Ids.{above_all, next_id}
+use Rattle.tree_findings.specs.Classes.{all_kept, limit}
+use Rattle.tree_findings.specs.Findings.{findings_of_body}
 use Rattle.tree_laws.specs.Findings.Versions.{has_room, with_version}
 use Rattle.step_rules.specs.Rule.{Tried, Target, Rule}
 use Rattle.step_rules.specs.Rule as rule

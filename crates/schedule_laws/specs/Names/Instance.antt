@@ -2,9 +2,9 @@
 -- orders, and one joins and multiplies loops.
 use Rattle.std.specs.Prelude.{pos, codes}
 use Rattle.exo_meaning.specs.Orders.{Each}
-use Rattle.text_show_laws.specs.Names.{IsName}
-use Rattle.text_show_laws.specs.Named.{AreNamed}
-use Rattle.made_trees.specs.Names.{numbered}
+use Rattle.exo_types_laws.specs.Shown.Names.{IsName}
+use Rattle.exo_types_laws.specs.Shown.Named.{AreNamed}
+use Rattle.tree_edits.specs.Made.Names.{numbered}
 use Rattle.exo_tree.specs.Tree.{Lit}
 use Rattle.schedule_laws.specs.Operators.Instance.{unit, schedule, result}
 use Rattle.schedule_laws.specs.Operators.LoopInstance as loops

@@ -2,9 +2,9 @@
 use Rattle.std.specs.Prelude.{◌≡◌, ℕ}
 use Rattle.exo_tree.specs.Tree.{Block, Procedure}
 use Rattle.exo_tree.specs.Places.{Path}
-use Rattle.text_show_laws.specs.Names.{IsName}
-use Rattle.text_show_laws.specs.Named.{IsNamedBlock, IsNamedProcedure, AreNamed}
-use Rattle.made_trees.specs.Names.{named_copies}
+use Rattle.exo_types_laws.specs.Shown.Names.{IsName}
+use Rattle.exo_types_laws.specs.Shown.Named.{IsNamedBlock, IsNamedProcedure, AreNamed}
+use Rattle.tree_edits.specs.Made.Names.{named_copies}
 use Rattle.cursor_forward.specs.Proposals.{Plan}
 use Rattle.step_rules.specs.Rule.{Got, Target, Spot, Writing, Rule}
 use Rattle.step_rules.specs.Answer.{proposed}

@@ -2,7 +2,7 @@
 use Rattle.std.specs.Prelude.{◌≡◌, ⊤, ℕ, List}
 use Rattle.exo_tree.specs.Tree.{Program}
 use Rattle.exo_meaning.specs.Orders.{Each}
-use Rattle.text_show_laws.specs.Named.{AreNamed}
+use Rattle.exo_types_laws.specs.Shown.Named.{AreNamed}
 use Rattle.schedule_laws.specs.Versions.Versions.{Versions, started}
 use Rattle.schedule_laws.specs.Versions.Lines.{Act, Faulty, Apply, Search, Moved, Emit}
 use Rattle.schedule_laws.specs.Versions.Lines.{Done, run_acts}

@@ -3,9 +3,9 @@ use Rattle.std.specs.Prelude.{◌≡◌, ⊤, ℕ, List, length, map, Some, slic
 use Rattle.exo_tree.specs.Tree.{Procedure, Program}
 use Rattle.exo_meaning.specs.Orders.{Each}
 use Rattle.exo_meaning.specs.Units.{IsUnit}
-use Rattle.text_show_laws.specs.Names.{IsName}
-use Rattle.text_show_laws.specs.Named.{AreNamed}
-use Rattle.text_show_laws.specs.Writable.{IsWritable}
+use Rattle.exo_types_laws.specs.Shown.Names.{IsName}
+use Rattle.exo_types_laws.specs.Shown.Named.{AreNamed}
+use Rattle.exo_types_laws.specs.Shown.Writable.{IsWritable}
 use Rattle.unit_check.specs.Faults.{NothingFaults}
 use Rattle.schedule_text.specs.Tree as tree
 use Rattle.schedule_calls.specs.Requests.{Request, Apply, Search, Moved, Emit}

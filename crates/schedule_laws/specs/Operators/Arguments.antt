@@ -9,10 +9,10 @@ use Rattle.rules_names.specs.Arguments.{is_control_form, is_condition_form}
 use Rattle.rules_names.specs.Names.{id_in, field_in, memory_in}
 use Rattle.rules_names.specs.Resolved.{control_of, condition_of}
 use Rattle.rules_names.specs.WindowRules.{coordinates_of}
-use Rattle.rules_scopes.specs.PlaceScope.{scope_at}
+use Rattle.rules_names.specs.Scopes.PlaceScope.{scope_at}
 use Rattle.exo_types.specs.ArgumentRules.{kind_value_of}
-use Rattle.cursor_patterns.specs.Patterns as pattern
-use Rattle.cursor_patterns.specs.Patterns.{ExprForm}
+use Rattle.cursor_forward.specs.Search.Patterns as pattern
+use Rattle.cursor_forward.specs.Search.Patterns.{ExprForm}
 use Rattle.cursor_forward.specs.Cursors.{Side, Before, After}
 use Rattle.step_rules.specs.Rule.{Target}
 use Rattle.loop_laws.specs.DivideLoop as divide

@@ -6,8 +6,8 @@ use Rattle.exo_tree.specs.Places.{Main}
 use Rattle.text_lexer.specs.declared.token.Literal.TheVariants.{Value}
 use Rattle.text_expressions.specs.Expression.{Tree, number}
 use Rattle.place_laws.specs.Scope.UnrollLoop.{only_loop}
-use Rattle.cursor_patterns.specs.Patterns as pattern
-use Rattle.cursor_patterns.specs.Patterns.{ExprPattern}
+use Rattle.cursor_forward.specs.Search.Patterns as pattern
+use Rattle.cursor_forward.specs.Search.Patterns.{ExprPattern}
 use Rattle.cursor_forward.specs.Causes.{WrongShape, NameTaken, StillUsed}
 use Rattle.cursor_forward.specs.Shifts.{at_index, stays, alone, range, edits_of}
 use Rattle.loop_laws.specs.Nest.Shapes.{step}

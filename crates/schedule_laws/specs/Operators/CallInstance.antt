@@ -8,7 +8,7 @@ use Rattle.text_expressions.specs.Expression.{Tree, number, truth}
 use Rattle.place_laws.specs.Scope.UnrollLoop.{only_loop}
 use Rattle.config_laws.specs.FieldRule.{Before, Behind}
 use Rattle.config_laws.specs.Differing.{Origin}
-use Rattle.cursor_patterns.specs.Patterns as pattern
+use Rattle.cursor_forward.specs.Search.Patterns as pattern
 use Rattle.cursor_forward.specs.Causes.{WrongShape, NotDescendant, NoMatch}
 use Rattle.cursor_forward.specs.Shifts.{at_index, alone, edits_of}
 use Rattle.loop_laws.specs.Shapes.{inside}

@@ -7,7 +7,7 @@ use Rattle.exo_tree.specs.Places.{Branch, Path}
 use Rattle.text_expressions.specs.Expression.{Tree}
 use Rattle.rules_names.specs.Arguments.{knows_fields, knows_coordinate}
 use Rattle.rules_names.specs.Names.{field_in}
-use Rattle.cursor_patterns.specs.Patterns.{ExprPattern}
+use Rattle.cursor_forward.specs.Search.Patterns.{ExprPattern}
 use Rattle.cursor_forward.specs.Causes.{WrongShape}
 use Rattle.cursor_forward.specs.Cursors.{Side, Cursor}
 use Rattle.step_rules.specs.Rule.{Tried, Got, Not, Target, Rule}

@@ -3,7 +3,7 @@
 use Rattle.std.specs.Prelude.{◌≡◌, ℕ, pos, true, false, List, [], ◌∷◌, None, Some, codes, map}
 use Rattle.exo_tree.specs.Tree.{I32, Const, Plus, Assign, Pass, Block, end, next}
 use Rattle.exo_tree.specs.Tree.{TensorParam, Procedure, MemoryKind, Program}
-use Rattle.cursor_patterns.specs.Patterns as pattern
+use Rattle.cursor_forward.specs.Search.Patterns as pattern
 use Rattle.cursor_forward.specs.Causes.{WrongShape}
 use Rattle.config_laws.specs.FieldRule.{Before}
 use Rattle.config_laws.specs.Differing.{Origin}

@@ -8,7 +8,7 @@ use Rattle.text_expressions.specs.Expression.{Tree, number, variable, field, bin
 use Rattle.place_laws.specs.Scope.BranchesAtPlaces.{only_branch}
 use Rattle.place_laws.specs.Scope.UnrollLoop.{only_loop}
 use Rattle.affine_prover.specs.declared.answer.Verdict.TheVariants.{Open}
-use Rattle.cursor_patterns.specs.Patterns as pattern
+use Rattle.cursor_forward.specs.Search.Patterns as pattern
 use Rattle.cursor_forward.specs.Causes.{WrongShape, OutOfScope, LimitPassed}
 use Rattle.cursor_forward.specs.Shifts.{at_index, stays, alone, range, edits_of}
 use Rattle.loop_laws.specs.Shapes.{inside}

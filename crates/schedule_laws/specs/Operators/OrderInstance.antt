@@ -7,7 +7,7 @@ use Rattle.exo_tree.specs.Places.{Main, Else}
 use Rattle.place_laws.specs.Scope.BranchesAtPlaces.{only_branch}
 use Rattle.place_laws.specs.Scope.UnrollLoop.{only_loop}
 use Rattle.affine_prover.specs.declared.answer.Verdict.TheVariants.{Open}
-use Rattle.cursor_patterns.specs.Patterns as pattern
+use Rattle.cursor_forward.specs.Search.Patterns as pattern
 use Rattle.cursor_forward.specs.Causes.{WrongShape, NotIdempotent}
 use Rattle.cursor_forward.specs.Shifts.{at_index, alone, range, edits_of}
 use Rattle.loop_laws.specs.Shapes.{inside}

@@ -2,7 +2,7 @@
 use Rattle.std.specs.Prelude.{⊤, ℕ, List}
 use Rattle.exo_tree.specs.Tree.{Control, Condition, Argument}
 use Rattle.exo_tree.specs.Places.{Branch}
-use Rattle.cursor_patterns.specs.Patterns.{ExprPattern}
+use Rattle.cursor_forward.specs.Search.Patterns.{ExprPattern}
 use Rattle.step_rules.specs.Rule.{Rule}
 use Rattle.proc_laws.specs.Expression.Commute.{commute_rule}
 use Rattle.proc_laws.specs.Expression.Passes.{delete_pass_rule}
@@ -30,12 +30,12 @@ use Rattle.alloc_laws.specs.Expanding.{expand_rule}
 use Rattle.alloc_laws.specs.Bind.Binding as parts
 use Rattle.alloc_laws.specs.Bind.Binding.{Form}
 use Rattle.alloc_laws.specs.Stage.Staging.{stage_rule}
-use Rattle.call_laws.specs.Inline.{inline_rule}
-use Rattle.call_laws.specs.InlineWindow.{inline_window_rule}
-use Rattle.unify_laws.specs.Simplify.{simplify_rule}
-use Rattle.unify_laws.specs.Replace.Rule.{replace_rule}
-use Rattle.field_laws.specs.FieldRules as fields
-use Rattle.field_laws.specs.FieldRules.{write_rule, version_rule}
+use Rattle.call_laws.specs.Calls.Inline.{inline_rule}
+use Rattle.call_laws.specs.Calls.InlineWindow.{inline_window_rule}
+use Rattle.call_laws.specs.Simplify.{simplify_rule}
+use Rattle.call_laws.specs.Replace.Rule.{replace_rule}
+use Rattle.call_laws.specs.Fields.FieldRules as fields
+use Rattle.call_laws.specs.Fields.FieldRules.{write_rule, version_rule}
 use Rattle.schedule_calls.specs.Requests.{Change, Alone, WithControl, WithWord, MultLoops}
 use Rattle.schedule_calls.specs.Requests.{Specialize, CommuteExpr, BindExpr, ExpandDim, StageMem}
 use Rattle.schedule_calls.specs.Requests.{WriteConfig, BindConfig, DivideLoop, EliminateDeadCode}

@@ -9,7 +9,7 @@ use Rattle.text_expressions.specs.declared.source.Operator.TheVariants as operat
 use Rattle.text_expressions.specs.Expression.{Tree, number, variable, binary}
 use Rattle.exo_reader.specs.Source.{span}
 use Rattle.affine_prover.specs.declared.answer.Verdict.TheVariants.{Open}
-use Rattle.cursor_patterns.specs.Patterns as pattern
+use Rattle.cursor_forward.specs.Search.Patterns as pattern
 use Rattle.cursor_forward.specs.Causes.{WrongShape, OutOfScope, NotOnlyReduced, NameTaken}
 use Rattle.cursor_forward.specs.Shifts.{Edits, at_index, range, edits_of}
 use Rattle.alloc_laws.specs.Lifting.{within}

@@ -7,7 +7,7 @@ use Rattle.exo_meaning.specs.Inputs.{Refines}
 use Rattle.exo_meaning.specs.Orders.{Each}
 use Rattle.exo_meaning.specs.Units.{IsUnit}
 use Rattle.meaning_laws.specs.Chain.{HasHead}
-use Rattle.made_trees.specs.Ids.{next_id}
+use Rattle.tree_edits.specs.Made.Ids.{next_id}
 use Rattle.config_laws.specs.Differing.{step_fields, is_descendant, differing}
 use Rattle.unit_check.specs.Faults.{NothingFaults}
 use Rattle.cursor_forward.specs.Cursors.{Cursor}

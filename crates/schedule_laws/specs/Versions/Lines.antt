@@ -10,7 +10,7 @@ use Rattle.affine_prover.specs.declared.answer.Verdict.{Verdict}
 use Rattle.bounds_check.specs.Obligations.{Fault, obligations_of, list_fault}
 use Rattle.unit_check.specs.Checked as unit_check
 use Rattle.unit_check.specs.Checked.{first_open}
-use Rattle.cursor_patterns.specs.Patterns.{Pattern}
+use Rattle.cursor_forward.specs.Search.Patterns.{Pattern}
 use Rattle.cursor_forward.specs.Causes.{Cause}
 use Rattle.cursor_forward.specs.Cursors.{Cursor}
 use Rattle.cursor_forward.specs.Proposals.{Plan}

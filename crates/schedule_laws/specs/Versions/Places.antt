@@ -3,7 +3,7 @@ use Rattle.std.specs.Prelude.{ℕ, zero, suc, ◌==◌, if◌then◌else◌, Lis
 use Rattle.std.specs.Prelude.{Option, Some, None, slice_get, option_map, option_and_then}
 use Rattle.exo_tree.specs.Tree.{Block, Procedure}
 use Rattle.config_laws.specs.Differing.{parent_in, from_parent, is_descendant}
-use Rattle.cursor_patterns.specs.Patterns.{Pattern}
+use Rattle.cursor_forward.specs.Search.Patterns.{Pattern}
 use Rattle.schedule_calls.specs.Requests.{Move, Parent, Next, Prev, Body, Before, After, Expand}
 use Rattle.schedule_calls.specs.Requests.{Item, Source, Under, Found, Here, Asked}
 use Rattle.cursor_forward.specs.Cursors.{Cursor, parent_of, next_of, prev_of, body_of, item_of}

@@ -29,7 +29,7 @@ pub fn runs_keep_names()
 pub fn lines_give_names()
     ensures { LinesGiveNames }
 {
-    schedule_patterns::laws::names_are_one();
+    schedule_text::patterns::laws::names_are_one();
 }
 
 /// So all versions of a schedule have such names.
@@ -43,7 +43,7 @@ pub fn versions_are_writable()
 {
     schedules_keep_names();
     crate::operators::laws::schedules_derive();
-    text_show_laws::laws::named_units_are_writable();
+    exo_types_laws::shown::laws::named_units_are_writable();
 }
 
 /// The closed schedules of the operators: the versions that they leave have names of the grammar.

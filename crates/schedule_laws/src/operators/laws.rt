@@ -37,15 +37,15 @@ pub fn operators_are_lawful()
     alloc_laws::laws::expansions_are_lawful();
     alloc_laws::bind::laws::bindings_are_lawful();
     alloc_laws::stage::laws::stagings_are_lawful();
-    call_laws::laws::inlined_windows_are_lawful();
-    call_laws::laws::inlined_calls_are_lawful();
-    unify_laws::replace::laws::replacements_are_lawful();
-    unify_laws::laws::simplifications_are_lawful();
-    field_laws::laws::writes_are_lawful();
-    field_laws::laws::deletions_are_lawful();
-    field_laws::laws::bindings_are_lawful();
-    field_laws::laws::versions_are_lawful();
-    field_laws::laws::told_fields_are_there();
+    call_laws::calls::laws::inlined_windows_are_lawful();
+    call_laws::calls::laws::inlined_calls_are_lawful();
+    call_laws::replace::laws::replacements_are_lawful();
+    call_laws::laws::simplifications_are_lawful();
+    call_laws::fields::laws::writes_are_lawful();
+    call_laws::fields::laws::deletions_are_lawful();
+    call_laws::fields::laws::bindings_are_lawful();
+    call_laws::fields::laws::versions_are_lawful();
+    call_laws::fields::laws::told_fields_are_there();
 }
 
 /// What a schedule makes of a well-formed unit of which nothing faults is derived.

@@ -8,12 +8,14 @@ use Rattle.exo_meaning.specs.Run.{roots_after}
 use Rattle.exo_meaning.specs.Units.{Sort, Scope, ControlName, sort_in, has_rank, with_name, view_sort, scope_after, is_new}
 use Rattle.exo_meaning.specs.Units.{is_empty, is_short, is_rank, spans, plainly, with_fields, is_control}
 use Rattle.exo_meaning.specs.Units.{is_condition, is_block, is_statement}
-use Rattle.tree_rules.specs.declared.findings.Findings.{Findings}
-use Rattle.tree_rules.specs.Classes.{both, all_of, rule, limit, use_of}
-use Rattle.tree_rules.specs.Findings.{found_in_binder, with_view, scope_behind, findings_of_control, findings_of_controls}
-use Rattle.tree_rules.specs.Findings.{findings_of_condition, findings_of_access, findings_of_datum, findings_of_coord, findings_of_window}
-use Rattle.tree_rules.specs.Findings.{findings_of_block, findings_of_statement}
-use Rattle.tree_rules.specs.Obeys.{obeys, statement_obeys}
+use Rattle.tree_findings.specs.declared.findings.Findings.{Findings}
+use Rattle.tree_findings.specs.Classes.{both, all_of, rule, limit, use_of}
+use Rattle.tree_findings.specs.Findings.{found_in_binder, with_view, scope_behind}
+use Rattle.tree_findings.specs.Findings.{findings_of_control, findings_of_controls}
+use Rattle.tree_findings.specs.Findings.{findings_of_condition, findings_of_access}
+use Rattle.tree_findings.specs.Findings.{findings_of_datum, findings_of_coord, findings_of_window}
+use Rattle.tree_findings.specs.Findings.{findings_of_block, findings_of_statement}
+use Rattle.tree_findings.specs.Obeys.{obeys, statement_obeys}
 use Rattle.tree_laws.specs.Findings.Exact.{ObeysLaw, ExactLaw}
 use Rattle.tree_laws.proofs.OfFindings.Parts.{Obeys, obeys_of, kept_parts, split}
 use Rattle.tree_laws.proofs.OfFindings.Expressions.{whole, wholes, whole_condition, access, datum, window, call, write}

@@ -5,10 +5,10 @@ use Rattle.exo_tree.specs.Tree.{I32, Kind, Size, Control, Lit, Var, Mul, Div, Lt
 use Rattle.exo_tree.specs.Tree.{Block, end, next, Param, ControlParam, TensorParam}
 use Rattle.exo_meaning.specs.Calls.{Callee}
 use Rattle.exo_meaning.specs.Units.{scope_of, plainly, with_fields, is_control, is_condition, is_block}
-use Rattle.tree_rules.specs.declared.findings.Findings.{Findings}
-use Rattle.tree_rules.specs.Classes.{fine}
-use Rattle.tree_rules.specs.Findings.{findings_of_block}
-use Rattle.tree_rules.specs.Obeys.{obeys}
+use Rattle.tree_findings.specs.declared.findings.Findings.{Findings}
+use Rattle.tree_findings.specs.Classes.{fine}
+use Rattle.tree_findings.specs.Findings.{findings_of_block}
+use Rattle.tree_findings.specs.Obeys.{obeys}
 use Rattle.tree_laws.proofs.OfFindings.Expressions.{control_law, condition_law}
 use Rattle.tree_laws.proofs.OfFindings.Blocks.{obeys_law, exact_law}
 

@@ -11,14 +11,19 @@ use Rattle.exo_meaning.specs.Units.{is_number, is_flag, has_rank, has_dimension,
 use Rattle.exo_meaning.specs.Units.{is_control, are_controls, is_condition, is_access, is_datum, is_coord}
 use Rattle.exo_meaning.specs.Units.{is_window, is_of_kind, is_for_tensor, is_for_window, is_for, are_for}
 use Rattle.exo_meaning.specs.Units.{is_literal_number, is_of_literals, is_call, is_write, share_nothing_written}
-use Rattle.tree_rules.specs.declared.findings.Findings.{Findings}
-use Rattle.tree_rules.specs.Classes.{both, all_of, rule, limit, use_of}
-use Rattle.tree_rules.specs.Sizes.{is_small_control, is_small_condition, is_small_datum, deepest_coord}
-use Rattle.tree_rules.specs.Findings.{found_in_divisor, found_in_control, findings_of_control, findings_of_controls}
-use Rattle.tree_rules.specs.Findings.{found_in_condition, findings_of_condition, findings_of_access}
-use Rattle.tree_rules.specs.Findings.{found_in_datum, findings_of_datum, findings_of_coord, findings_of_window}
-use Rattle.tree_rules.specs.Findings.{findings_of_kind, findings_of_tensor, findings_of_strided}
-use Rattle.tree_rules.specs.Findings.{findings_of_argument, findings_of_arguments, findings_of_call, findings_of_write}
+use Rattle.tree_findings.specs.declared.findings.Findings.{Findings}
+use Rattle.tree_findings.specs.Classes.{both, all_of, rule, limit, use_of}
+use Rattle.tree_findings.specs.Sizes.{is_small_control, is_small_condition, is_small_datum}
+use Rattle.tree_findings.specs.Sizes.{deepest_coord}
+use Rattle.tree_findings.specs.Findings.{found_in_divisor, found_in_control, findings_of_control}
+use Rattle.tree_findings.specs.Findings.{findings_of_controls}
+use Rattle.tree_findings.specs.Findings.{found_in_condition, findings_of_condition}
+use Rattle.tree_findings.specs.Findings.{findings_of_access}
+use Rattle.tree_findings.specs.Findings.{found_in_datum, findings_of_datum, findings_of_coord}
+use Rattle.tree_findings.specs.Findings.{findings_of_window}
+use Rattle.tree_findings.specs.Findings.{findings_of_kind, findings_of_tensor, findings_of_strided}
+use Rattle.tree_findings.specs.Findings.{findings_of_argument, findings_of_arguments}
+use Rattle.tree_findings.specs.Findings.{findings_of_call, findings_of_write}
 use Rattle.tree_laws.specs.Findings.Exact.{ControlLaw, ConditionLaw}
 use Rattle.tree_laws.proofs.OfFindings.Parts.{Obeys, obeys_of, split, use_is, each}
 

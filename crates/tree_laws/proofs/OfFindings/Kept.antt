@@ -6,8 +6,8 @@ use Rattle.exo_tree.specs.Tree.{Param}
 use Rattle.exo_tree.specs.Nodes.{nodes_in}
 use Rattle.exo_meaning.specs.Run.{program_world}
 use Rattle.exo_meaning.specs.Units.{scope_of, is_empty, is_short, is_condition, with_both, are_params, is_template, bound_ids, are_distinct, levels, field_kind}
-use Rattle.tree_rules.specs.Classes.{both, rule, limit}
-use Rattle.tree_rules.specs.Findings.{is_small_body, findings_of_block, findings_of_body}
+use Rattle.tree_findings.specs.Classes.{both, rule, limit}
+use Rattle.tree_findings.specs.Findings.{is_small_body, findings_of_block, findings_of_body}
 use Rattle.tree_laws.specs.Findings.Versions.{IsProcedureOf, FoundIsProcedure, KeptLaw}
 use Rattle.tree_laws.proofs.OfFindings.Parts.{kept_parts, split}
 use Rattle.tree_laws.proofs.OfFindings.Blocks.{block_obeys, block_is}

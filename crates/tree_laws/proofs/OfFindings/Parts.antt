@@ -3,8 +3,8 @@ use Rattle.std.proofs.Common.{◌≡◌, Bool, true, false, ◌&&◌, List, [], 
 use Rattle.std.specs.List.{list_all}
 use Rattle.std.proofs.lemmas.Bool.{and_parts}
 use Rattle.exo_meaning.specs.Units.{Sort}
-use Rattle.tree_rules.specs.declared.findings.Findings.{Findings}
-use Rattle.tree_rules.specs.Classes.{both, all_of, use_of, all_kept, all_but_names, first_broken}
+use Rattle.tree_findings.specs.declared.findings.Findings.{Findings}
+use Rattle.tree_findings.specs.Classes.{both, all_of, use_of, all_kept, all_but_names, first_broken}
 
 -- all but the names of binders
 pub record Obeys (f : Findings) : Type 0 where

@@ -2,7 +2,7 @@
 -- its binders have the ids 0 and 1, those of copies have ids from 2 on.
 use Rattle.std.proofs.Common.{◌≡◌, ℕ, pos, List, [], None, refl, codes}
 use Rattle.exo_tree.specs.Tree.{I32, Lit, For, Alloc, Block, end, next, Procedure}
-use Rattle.made_trees.specs.Names.{numbered, named_copies}
+use Rattle.tree_edits.specs.Made.Names.{numbered, named_copies}
 
 abbrev loop : ℕ → List ℕ → Block → Block
 loop id name b = next (For (record { id = id; name = name }) (Lit (pos 0)) (Lit (pos 1)) b) end

@@ -11,7 +11,7 @@ use Rattle.exo_tree.specs.Mapped.{mapped_argument, mapped_statement, mapped_bloc
 use Rattle.exo_meaning.specs.Binders.{binders, step_binders}
 use Rattle.place_laws.specs.Scope.Bare.{bare_binder, bare_statement, bare}
 use Rattle.place_laws.proofs.OfScope.Bare.{same_but_for_names}
-use Rattle.made_trees.specs.Names.{named_by, with_names, first_naming, tops, name_statements}
+use Rattle.tree_edits.specs.Made.Names.{named_by, with_names, first_naming, tops, name_statements}
 use Rattle.tree_laws.specs.Made.Laws.{NamesAlone, IdsStay, NamedCopiesRunAlike}
 
 -- an expression has no binder

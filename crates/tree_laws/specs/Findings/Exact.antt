@@ -3,9 +3,10 @@ use Rattle.std.specs.Prelude.{◌≡◌, ℕ, true, Option}
 use Rattle.exo_tree.specs.Tree.{Kind, Control, Condition, Block}
 use Rattle.exo_meaning.specs.Calls.{Callee}
 use Rattle.exo_meaning.specs.Units.{Scope, Reads, is_control, is_condition, is_block}
-use Rattle.tree_rules.specs.Classes.{all_kept, all_but_names}
-use Rattle.tree_rules.specs.Findings.{findings_of_control, findings_of_condition, findings_of_block}
-use Rattle.tree_rules.specs.Obeys.{obeys}
+use Rattle.tree_findings.specs.Classes.{all_kept, all_but_names}
+use Rattle.tree_findings.specs.Findings.{findings_of_control, findings_of_condition}
+use Rattle.tree_findings.specs.Findings.{findings_of_block}
+use Rattle.tree_findings.specs.Obeys.{obeys}
 
 -- a control expression keeps the rules of its place
 abbrev pub ControlLaw : Type 0

@@ -3,8 +3,8 @@ use Rattle.std.specs.Prelude.{◌≡◌, ◌^◌, ◌+◌, ℕ, suc, nat_lt, nat
 use Rattle.exo_tree.specs.Tree.{Procedure, Program}
 use Rattle.exo_meaning.specs.Run.{program_world}
 use Rattle.exo_meaning.specs.Units.{IsProcedure, IsUnit, field_kind}
-use Rattle.tree_rules.specs.Classes.{all_kept}
-use Rattle.tree_rules.specs.Findings.{findings_of_version}
+use Rattle.tree_findings.specs.Classes.{all_kept}
+use Rattle.tree_findings.specs.Findings.{findings_of_version}
 
 -- a unit with one procedure more, behind those that it has
 abbrev pub with_version : Program → Procedure → Program

@@ -4,7 +4,7 @@ use Rattle.exo_tree.specs.Tree.{Block, Procedure}
 use Rattle.exo_tree.specs.Renaming.{binders}
 use Rattle.exo_meaning.specs.Run.{World, run}
 use Rattle.place_laws.specs.Scope.Bare.{bare}
-use Rattle.made_trees.specs.Names.{named_copies}
+use Rattle.tree_edits.specs.Made.Names.{named_copies}
 
 -- nothing but the names of binders changes
 abbrev pub NamesAlone : Type 0

@@ -1,10 +1,10 @@
 use Rattle.std.proofs.Common.{ap, sym, ◌∙◌, subst, map, ◌≡◌}
 use Rattle.std.proofs.lemmas.List.Elements.{All-from_recursion}
 use Rattle.affine_forms.specs.System.{plain_row, plain_system}
-use Rattle.affine_rows.specs.Shapes.{AreWide}
+use Rattle.affine_prover.specs.RowSets.Shapes.{AreWide}
 use Rattle.affine_prover.specs.Elimination.{verdict_on, elimination}
-use Rattle.affine_rows.proofs.Widths.{IsWide}
-use Rattle.affine_rows.proofs.Spreading.{plain_rows-wide}
+use Rattle.affine_prover.proofs.OfRowSets.Widths.{IsWide}
+use Rattle.affine_prover.proofs.OfRowSets.Spreading.{plain_rows-wide}
 use Rattle.affine_prover.proofs.Meeting.{shown_has_no_point as shown-law}
 use Rattle.affine_prover.proofs.OpenEquations.{open_has_a_point as open-law}
 use Rattle.affine_prover.proofs.decide.verdict.Goals as goal

@@ -2,12 +2,12 @@ use Rattle.std.proofs.Common.{◌≡◌, ◌<◌, ◌-◌, sym, ap, subst, ◌�
 use Rattle.std.specs.Option.{option_map}
 use Rattle.affine_prover.specs.declared.answer.Verdict.{Verdict}
 use Rattle.affine_forms.specs.Affine.{Affine}
-use Rattle.affine_rows.specs.Shapes.{AreWide}
+use Rattle.affine_prover.specs.RowSets.Shapes.{AreWide}
 use Rattle.affine_prover.specs.Elimination.{stage, verdict_on_rows}
 use Rattle.affine_prover.specs.Elimination.Stage.{Ended, Rows}
 use Rattle.affine_prover.specs.Steps.{stage_of_step, StepSettled}
-use Rattle.affine_rows.specs.Settled.{AreSettled}
-use Rattle.affine_rows.proofs.Settling.{settled-normalized}
+use Rattle.affine_prover.specs.RowSets.Settled.{AreSettled}
+use Rattle.affine_prover.proofs.OfRowSets.Settling.{settled-normalized}
 use Rattle.affine_prover.proofs.Staging.{next-wide, verdict_on_rows-ended, verdict_on_rows-next, verdict_on_rows-open, verdict_on_rows-shown}
 use Rattle.affine_prover.proofs.eliminate.eliminate.Goals as goal
 use Rattle.affine_prover.proofs.eliminate.eliminate.Goals.{in-Some, in-None}

@@ -1,6 +1,6 @@
 use Rattle.std.proofs.Common.{◌≡◌, ◌++◌}
-use Rattle.affine_rows.specs.Shapes.{AreWide}
-use Rattle.affine_rows.specs.Settled.{AreSettled}
+use Rattle.affine_prover.specs.RowSets.Shapes.{AreWide}
+use Rattle.affine_prover.specs.RowSets.Settled.{AreSettled}
 use Rattle.affine_prover.specs.Elimination.{verdict_on_rows}
 use Rattle.affine_prover.proofs.eliminate.eliminate.Given as goal
 

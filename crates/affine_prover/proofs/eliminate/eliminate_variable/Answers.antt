@@ -1,12 +1,12 @@
 use Rattle.std.proofs.Common.{◌+◌, ◌*◌, ◌++◌, map, arith, sym, ap, subst, ◌∙◌, true, false}
 use Rattle.std.specs.Prelude.{IsTrue}
 use Rattle.std.specs.List.{All, flat_map}
-use Rattle.affine_rows.specs.Shapes.{AreWide}
-use Rattle.affine_rows.specs.Settled.{AreSettled}
-use Rattle.affine_rows.specs.Rows.{is_lower_bound, is_upper_bound, combination}
+use Rattle.affine_prover.specs.RowSets.Shapes.{AreWide}
+use Rattle.affine_prover.specs.RowSets.Settled.{AreSettled}
+use Rattle.affine_prover.specs.RowSets.Rows.{is_lower_bound, is_upper_bound, combination}
 use Rattle.affine_prover.specs.Elimination.Stage.{Rows}
 use Rattle.affine_prover.proofs.Staging.{variable_eliminated-many, variable_eliminated-few, split-total, split-narrow, split-following, filter-wide, filter-passes}
-use Rattle.affine_rows.proofs.Settling.{free-settled}
+use Rattle.affine_prover.proofs.OfRowSets.Settling.{free-settled}
 use Rattle.affine_prover.proofs.eliminate.eliminate_variable.Goals as goal
 
 pub combine_all-requires-clause-wide_lower : goal.combine_all-requires-clause-wide_lower

@@ -1,13 +1,13 @@
 use Rattle.std.proofs.Common.{◌≡◌, ◌<◌, ◌++◌, sym, ap, subst, ◌∙◌, Some, None, arith, length, suc, zero, ℕ}
 use Rattle.std.specs.Option.{option_map}
 use Rattle.std.proofs.lemmas.Bool.Decides.{nat_tests}
-use Rattle.affine_rows.specs.Shapes.{AreWide}
+use Rattle.affine_prover.specs.RowSets.Shapes.{AreWide}
 use Rattle.affine_prover.specs.Elimination.{variable_eliminated}
-use Rattle.affine_rows.specs.Rows.{least_at, pairs}
-use Rattle.affine_rows.specs.Settled.{normalized_onto}
-use Rattle.affine_rows.proofs.Settling.{settled-normalized, normalized_onto-settled}
+use Rattle.affine_prover.specs.RowSets.Rows.{least_at, pairs}
+use Rattle.affine_prover.specs.RowSets.Settled.{normalized_onto}
+use Rattle.affine_prover.proofs.OfRowSets.Settling.{settled-normalized, normalized_onto-settled}
 use Rattle.affine_prover.proofs.Staging.{stage-none, stage-empty, stage-some, kept-wide}
-use Rattle.affine_rows.proofs.Widths.{least_at-below}
+use Rattle.affine_prover.proofs.OfRowSets.Widths.{least_at-below}
 use Rattle.affine_prover.proofs.eliminate.stage.Goals as goal
 
 least-below : (f : ℕ → ℕ) (n : ℕ) → 0 < n → least_at f n < n

@@ -1,7 +1,7 @@
 use Rattle.std.proofs.Common.{◌≡◌, sym, ap, ◌∙◌, arith}
 use Rattle.std.specs.Option.{option_map}
 use Rattle.std.specs.List.{remove}
-use Rattle.affine_rows.specs.Rows.{has_unit, is_unit, coefficient}
+use Rattle.affine_prover.specs.RowSets.Rows.{has_unit, is_unit, coefficient}
 use Rattle.affine_prover.proofs.Rounds.{found, solved-both, wide-others, wide-rows}
 use Rattle.affine_prover.proofs.Meeting.{unit_place-is}
 use Rattle.affine_prover.proofs.equations.put_in.Goals as goal

@@ -3,8 +3,8 @@ use Rattle.std.specs.List.{filter, list_any}
 use Rattle.std.proofs.lemmas.List.{map-id}
 use Rattle.std.proofs.lemmas.Iterator.Adapters.{YieldsList-from_vec}
 use Rattle.std.proofs.lemmas.Iterator.Consumers.{YieldsList-turn, YieldsList-end}
-use Rattle.affine_rows.specs.Rows.{tightened, is_constant, is_impossible}
-use Rattle.affine_rows.proofs.Normalizing.{impossible_at, reduced-none, reduced-some}
+use Rattle.affine_prover.specs.RowSets.Rows.{tightened, is_constant, is_impossible}
+use Rattle.affine_prover.proofs.OfRowSets.Normalizing.{impossible_at, reduced-none, reduced-some}
 use Rattle.affine_prover.proofs.equations.reduce.Goals as goal
 
 pub returns-then-is_impossible : goal.returns-then-is_impossible

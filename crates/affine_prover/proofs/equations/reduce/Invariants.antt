@@ -1,6 +1,6 @@
 use Rattle.std.proofs.Common.{◌≡◌, false, not, map}
 use Rattle.std.specs.List.{filter, list_any}
-use Rattle.affine_rows.specs.Rows.{tightened, is_constant, is_impossible}
+use Rattle.affine_prover.specs.RowSets.Rows.{tightened, is_constant, is_impossible}
 use Rattle.affine_prover.proofs.equations.reduce.Given as goal
 
 abbrev pub invariant-loop-e : goal.invariant-loop-e

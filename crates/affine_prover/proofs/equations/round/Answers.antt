@@ -1,7 +1,7 @@
 use Rattle.std.proofs.Common.{◌≡◌, sym, ap, ◌∙◌, Some, None}
 use Rattle.std.specs.Option.{option_map}
 use Rattle.std.specs.List.{position}
-use Rattle.affine_rows.specs.Rows.{has_unit, reduced}
+use Rattle.affine_prover.specs.RowSets.Rows.{has_unit, reduced}
 use Rattle.affine_prover.proofs.Rounds.{round-none, round-some, round-unsolved, reduced-wide, not_found}
 use Rattle.affine_prover.proofs.equations.round.Goals as goal
 

@@ -1,5 +1,5 @@
 use Rattle.std.proofs.Common.{◌≡◌, sym, ap, subst, ◌∙◌, arith}
-use Rattle.affine_rows.specs.Shapes.{AreWide}
+use Rattle.affine_prover.specs.RowSets.Shapes.{AreWide}
 use Rattle.affine_prover.specs.Elimination.{verdict_on}
 use Rattle.affine_prover.specs.Steps.{round_of_turn}
 use Rattle.affine_prover.proofs.Solving.{unsolved-wide, verdict_on-finished, verdict_on-unsolved, verdict_on-solved, verdict_on-stuck}

@@ -1,5 +1,5 @@
 use Rattle.std.proofs.Common.{◌≡◌}
-use Rattle.affine_rows.specs.Shapes.{AreWide}
+use Rattle.affine_prover.specs.RowSets.Shapes.{AreWide}
 use Rattle.affine_prover.specs.Elimination.{verdict_on}
 use Rattle.affine_prover.proofs.equations.solve.Given as goal
 

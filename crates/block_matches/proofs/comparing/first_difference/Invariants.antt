@@ -1,7 +1,7 @@
 use Rattle.std.proofs.Common.{◌≡◌, map, drop}
 use Rattle.match_laws.specs.Matched.{first_difference}
 use Rattle.match_laws.specs.Widths.{walk_is_short}
-use Rattle.block_pairs.specs.PlainPair.{plain_pair}
+use Rattle.block_matches.specs.Pairs.PlainPair.{plain_pair}
 use Rattle.block_matches.specs.PlainMoving.{plain_moving}
 use Rattle.block_matches.proofs.comparing.first_difference.Given as goal
 

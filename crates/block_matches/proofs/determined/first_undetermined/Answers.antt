@@ -3,7 +3,7 @@ use Rattle.exo_tree.specs.PlainParam.{parameter}
 use Rattle.exo_tree.specs.PlainProcedure.{procedure}
 use Rattle.inplace_laws.specs.Inline.{is_param}
 use Rattle.match_laws.specs.Matched.{first_undetermined}
-use Rattle.block_pairs.specs.PlainPair.{plain_pair}
+use Rattle.block_matches.specs.Pairs.PlainPair.{plain_pair}
 use Rattle.block_matches.specs.Held.{determined_in}
 use Rattle.block_matches.proofs.Tables.{next_item, is_first, is_later}
 use Rattle.block_matches.proofs.determined.first_undetermined.Goals as goal

@@ -4,7 +4,7 @@ use Rattle.exo_tree.specs.PlainParam.{parameter}
 use Rattle.exo_tree.specs.PlainProcedure.{procedure}
 use Rattle.inplace_laws.specs.Inline.{is_param}
 use Rattle.match_laws.specs.Matched.{first_undetermined}
-use Rattle.block_pairs.specs.PlainPair.{plain_pair}
+use Rattle.block_matches.specs.Pairs.PlainPair.{plain_pair}
 use Rattle.block_matches.proofs.determined.first_undetermined.Given as goal
 
 abbrev pub invariant-loop-p : goal.invariant-loop-p

@@ -5,8 +5,8 @@ use Rattle.meaning_laws.specs.Scoped.{is_param}
 use Rattle.match_laws.specs.Matched.{first_undetermined}
 use Rattle.match_laws.specs.Names.{Names}
 use Rattle.match_laws.specs.Pairs.{Pair, paired}
-use Rattle.block_pairs.specs.Held.{names_in}
-use Rattle.block_pairs.specs.PlainPair.{plain_pair}
+use Rattle.block_matches.specs.Pairs.Held.{names_in}
+use Rattle.block_matches.specs.Pairs.PlainPair.{plain_pair}
 use Rattle.block_matches.proofs.Choices.{of_same}
 use Rattle.block_matches.proofs.matched.undetermined.Goals as goal
 

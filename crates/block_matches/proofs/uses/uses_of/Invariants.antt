@@ -1,6 +1,6 @@
 use Rattle.std.proofs.Common.{◌≡◌, take, map}
 use Rattle.match_laws.specs.Windows.{uses_of}
-use Rattle.block_pairs.specs.PlainPair.{plain_pair}
+use Rattle.block_matches.specs.Pairs.PlainPair.{plain_pair}
 use Rattle.block_matches.specs.PlainUse.{plain_use}
 use Rattle.block_matches.proofs.uses.uses_of.Given as goal
 

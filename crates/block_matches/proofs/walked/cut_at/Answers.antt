@@ -2,8 +2,8 @@ use Rattle.std.proofs.Common.{◌≡◌, ◌∷◌, [], ◌++◌, Some, length, 
 use Rattle.std.proofs.lemmas.Option.{slice_get_read}
 use Rattle.std.specs.Prelude.{slice_get}
 use Rattle.match_laws.specs.Pairs.{Unlike}
-use Rattle.block_pairs.specs.PlainPair.{plain_pair}
-use Rattle.block_pairs.specs.declared.pair.Pair.TheVariants as pair
+use Rattle.block_matches.specs.Pairs.PlainPair.{plain_pair}
+use Rattle.block_matches.specs.declared.pairs.pair.Pair.TheVariants as pair
 use Rattle.block_matches.proofs.Cuts.{cut_pushed}
 use Rattle.block_matches.proofs.walked.cut_at.Goals as goal
 

@@ -2,8 +2,8 @@ use Rattle.std.proofs.Common.{◌≡◌, false, map, ap, ◌∙◌}
 use Rattle.exo_tree.specs.PlainProcedure.{procedure}
 use Rattle.inplace_laws.specs.Inline.{is_param}
 use Rattle.match_laws.specs.Matched.{walked}
-use Rattle.block_pairs.specs.Held.{ids_in}
-use Rattle.block_pairs.specs.PlainPair.{plain_pair}
+use Rattle.block_matches.specs.Pairs.Held.{ids_in}
+use Rattle.block_matches.specs.Pairs.PlainPair.{plain_pair}
 use Rattle.block_matches.specs.Held.{partners_in}
 use Rattle.block_matches.specs.Kept.{kept, cut_at}
 use Rattle.block_matches.proofs.Cuts.{cut_all}

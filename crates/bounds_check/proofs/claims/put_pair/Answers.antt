@@ -4,7 +4,7 @@ use Rattle.std.specs.List.{list_all}
 use Rattle.exo_meaning.specs.Units.{field_kind}
 use Rattle.affine_systems.specs.Outcomes.{plain_obligation}
 use Rattle.check_claims.specs.Claim.{Apart}
-use Rattle.exo_conflicts.specs.Outcomes.{access_is_low}
+use Rattle.effect_conflicts.specs.Outcomes.{access_is_low}
 use Rattle.exo_effects.specs.PlainUses.{plain_uses}
 use Rattle.bounds_check.specs.Errors.{error_of}
 use Rattle.bounds_check.specs.Sites.{unit_at, proc_at}

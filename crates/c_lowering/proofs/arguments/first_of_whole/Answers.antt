@@ -1,5 +1,5 @@
 use Rattle.std.proofs.Common.{◌∙◌, ap}
-use Rattle.c_lowered.specs.Lowered.{cell_ref, numbers_of, or_one, strides_in}
+use Rattle.c_lowering.specs.Made.Lowered.{cell_ref, numbers_of, or_one, strides_in}
 use Rattle.c_lowering.specs.Scope.{forms_in}
 use Rattle.c_lowering.specs.Naming.{naming_of}
 use Rattle.c_lowering.proofs.Offsets.{zero_numbers}

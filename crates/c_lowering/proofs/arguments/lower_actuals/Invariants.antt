@@ -3,7 +3,7 @@ use Rattle.std.proofs.Common.{◌≡◌, ◌++◌, map, drop}
 use Rattle.exo_tree.specs.PlainParam.{parameter}
 use Rattle.exo_tree.specs.PlainArgument.{argument}
 use Rattle.c_tree.specs.Plain.{plain_actual}
-use Rattle.c_lowered.specs.Lowered.{actuals_of}
+use Rattle.c_lowering.specs.Made.Lowered.{actuals_of}
 use Rattle.c_lowering.specs.Scope.{forms_in}
 use Rattle.c_lowering.specs.Naming.{naming_of}
 use Rattle.c_lowering.proofs.arguments.lower_actuals.Given as goal

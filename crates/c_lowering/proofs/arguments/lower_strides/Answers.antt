@@ -1,7 +1,7 @@
 use Rattle.std.proofs.Common.{◌∙◌, ◌∷◌, ◌+◌, ap, sym, map, drop, arith}
 use Rattle.std.proofs.lemmas.List.{drop_all}
 use Rattle.c_tree.specs.Plain.{plain_number}
-use Rattle.c_lowered.specs.Lowered.{strides_in}
+use Rattle.c_lowering.specs.Made.Lowered.{strides_in}
 use Rattle.c_lowering.specs.Scope.{forms_in}
 use Rattle.c_lowering.specs.Naming.{naming_of}
 use Rattle.c_lowering.proofs.Lists.{one_pushed, nothing_left}

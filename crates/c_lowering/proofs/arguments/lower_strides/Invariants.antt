@@ -1,7 +1,7 @@
 -- What is made, and the strides that are left, are all strides.
 use Rattle.std.proofs.Common.{◌≡◌, ◌++◌, map, drop}
 use Rattle.c_tree.specs.Plain.{plain_number}
-use Rattle.c_lowered.specs.Lowered.{strides_in}
+use Rattle.c_lowering.specs.Made.Lowered.{strides_in}
 use Rattle.c_lowering.specs.Scope.{forms_in}
 use Rattle.c_lowering.specs.Naming.{naming_of}
 use Rattle.c_lowering.proofs.arguments.lower_strides.Given as goal

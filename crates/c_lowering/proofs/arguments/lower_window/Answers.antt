@@ -1,5 +1,5 @@
 use Rattle.std.proofs.Common.{◌∙◌, ap}
-use Rattle.c_lowered.specs.Lowered.{at_spans, strides_in}
+use Rattle.c_lowering.specs.Made.Lowered.{at_spans, strides_in}
 use Rattle.c_lowering.specs.Scope.{forms_in}
 use Rattle.c_lowering.specs.Naming.{naming_of}
 use Rattle.c_lowering.proofs.Windows.{window_same}

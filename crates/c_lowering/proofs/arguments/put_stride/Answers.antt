@@ -1,5 +1,5 @@
 use Rattle.exo_tree.specs.PlainControl.{coordinate}
-use Rattle.c_lowered.specs.Lowered.{strides_in}
+use Rattle.c_lowering.specs.Made.Lowered.{strides_in}
 use Rattle.c_lowering.specs.Scope.{forms_in}
 use Rattle.c_lowering.specs.Naming.{naming_of}
 use Rattle.c_lowering.proofs.Windows.{stride_put}

@@ -1,6 +1,6 @@
 use Rattle.std.proofs.Common.{◌+◌, map, drop, length, ap, arith}
 use Rattle.exo_tree.specs.PlainControl.{coordinate}
-use Rattle.c_lowered.specs.Lowered.{strides_in}
+use Rattle.c_lowering.specs.Made.Lowered.{strides_in}
 use Rattle.c_lowering.specs.Scope.{forms_in}
 use Rattle.c_lowering.proofs.Lists.{mapped_next}
 use Rattle.c_lowering.proofs.Windows.{span_here, no_span_here, spans_counted}

@@ -1,7 +1,7 @@
 -- The spans so far, and those that are left.
 use Rattle.std.proofs.Common.{◌≡◌, ◌≤◌, ◌+◌, map, length, drop}
 use Rattle.exo_tree.specs.PlainControl.{coordinate}
-use Rattle.c_lowered.specs.Lowered.{Naming, strides_in, at_spans}
+use Rattle.c_lowering.specs.Made.Lowered.{Naming, strides_in, at_spans}
 use Rattle.c_lowering.specs.Scope.{forms_in}
 use Rattle.c_lowering.proofs.arguments.span_count.Given as goal
 

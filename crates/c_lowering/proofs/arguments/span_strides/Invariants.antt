@@ -2,7 +2,7 @@
 use Rattle.std.proofs.Common.{◌≡◌, ◌++◌, map, drop}
 use Rattle.exo_tree.specs.PlainControl.{coordinate}
 use Rattle.c_tree.specs.Plain.{plain_number}
-use Rattle.c_lowered.specs.Lowered.{strides_in, at_spans}
+use Rattle.c_lowering.specs.Made.Lowered.{strides_in, at_spans}
 use Rattle.c_lowering.specs.Scope.{forms_in}
 use Rattle.c_lowering.specs.Naming.{naming_of}
 use Rattle.c_lowering.proofs.arguments.span_strides.Given as goal

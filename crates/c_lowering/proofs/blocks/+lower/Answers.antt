@@ -4,7 +4,7 @@ use Rattle.exo_tree.specs.Tree.{block}
 use Rattle.exo_tree.specs.PlainStatement.{statement}
 use Rattle.c_tree.specs.CTree.{cblock, followed_by}
 use Rattle.c_tree.specs.Plain.{plain_statement}
-use Rattle.c_lowered.specs.Lowered.{block_of, forms_after}
+use Rattle.c_lowering.specs.Made.Lowered.{block_of, forms_after}
 use Rattle.c_lowering.specs.Scope.{forms_in}
 use Rattle.c_lowering.specs.Naming.{naming_of}
 use Rattle.c_lowering.specs.Heads.{frees}

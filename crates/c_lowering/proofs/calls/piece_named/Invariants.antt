@@ -2,7 +2,7 @@
 use Rattle.std.proofs.Common.{◌≡◌, map, drop}
 use Rattle.exo_tree.specs.PlainParam.{parameter}
 use Rattle.exo_tree.specs.PlainArgument.{argument}
-use Rattle.c_lowered.specs.Lowered.{piece_named}
+use Rattle.c_lowering.specs.Made.Lowered.{piece_named}
 use Rattle.c_lowering.specs.Scope.{forms_in}
 use Rattle.c_lowering.specs.Naming.{naming_of}
 use Rattle.c_lowering.proofs.calls.piece_named.Given as goal

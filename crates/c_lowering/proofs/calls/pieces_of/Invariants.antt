@@ -3,7 +3,7 @@ use Rattle.std.proofs.Common.{◌≡◌, ◌++◌, map, drop}
 use Rattle.exo_tree.specs.PlainParam.{parameter}
 use Rattle.exo_tree.specs.PlainArgument.{argument}
 use Rattle.c_tree.specs.Plain.{plain_piece}
-use Rattle.c_lowered.specs.Lowered.{piece_of}
+use Rattle.c_lowering.specs.Made.Lowered.{piece_of}
 use Rattle.c_lowering.specs.Scope.{forms_in}
 use Rattle.c_lowering.specs.Naming.{naming_of}
 use Rattle.c_lowering.specs.PlainHole.{plain_hole}

@@ -1,6 +1,6 @@
 use Rattle.std.proofs.Common.{◌∙◌, map}
 use Rattle.exo_tree.specs.PlainControl.{control}
-use Rattle.c_lowered.specs.Lowered.{or_one, strides_in}
+use Rattle.c_lowering.specs.Made.Lowered.{or_one, strides_in}
 use Rattle.c_lowering.specs.Scope.{forms_in}
 use Rattle.c_lowering.specs.Naming.{naming_of}
 use Rattle.c_lowering.proofs.Offsets.{offset_is}

@@ -1,5 +1,5 @@
 use Rattle.std.proofs.Common.{◌∙◌, arith}
-use Rattle.c_names.specs.Binders.{name_in}
+use Rattle.c_tree.specs.Names.Binders.{name_in}
 use Rattle.c_lowering.proofs.Offsets.{window_stride_is, no_window_stride}
 use Rattle.c_lowering.proofs.numbers.window_stride.Goals as goal
 

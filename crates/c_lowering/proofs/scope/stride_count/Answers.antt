@@ -1,6 +1,6 @@
 use Rattle.std.proofs.Common.{◌∙◌, ap, sym, length}
 use Rattle.exo_tree.specs.PlainBinder.{cell_type}
-use Rattle.c_lowered.specs.Lowered.{strides_in}
+use Rattle.c_lowering.specs.Made.Lowered.{strides_in}
 use Rattle.c_lowering.specs.Scope.{form_of}
 use Rattle.c_lowering.proofs.Offsets.{tensor_strides, window_rank}
 use Rattle.c_lowering.proofs.scope.stride_count.Goals as goal

@@ -1,6 +1,6 @@
 use Rattle.std.proofs.Common.{◌≡◌, ◌∙◌, ◌++◌, ◌∷◌, [], map, ap, refl, string_bytes}
 use Rattle.std.proofs.lemmas.List.{map_push}
-use Rattle.c_lowered.specs.Lowered as parts
+use Rattle.c_lowering.specs.Made.Lowered as parts
 use Rattle.c_lowering.specs.PlainHole.{plain_hole}
 use Rattle.c_lowering.specs.Reader.{behind}
 use Rattle.c_lowering.specs.declared.templates.Hole.TheVariants.{InBraces}

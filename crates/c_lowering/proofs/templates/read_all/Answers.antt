@@ -3,7 +3,7 @@ use Rattle.std.proofs.lemmas.Str.{encodes-chars}
 use Rattle.std.proofs.lemmas.Iterator.{YieldsList-from_chars}
 use Rattle.std.proofs.lemmas.Iterator.Consumers.{YieldsList-end}
 use Rattle.exo_meaning.specs.Units.{Plain}
-use Rattle.c_lowered.specs.LoweredUnit.{holes_from}
+use Rattle.c_lowering.specs.Made.LoweredUnit.{holes_from}
 use lib.Utf8.{encode, encodes}
 use Rattle.c_lowering.proofs.Reading.{one_more}
 use Rattle.c_lowering.proofs.templates.read_all.Goals as goal

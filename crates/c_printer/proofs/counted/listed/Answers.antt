@@ -1,7 +1,7 @@
 use Rattle.std.proofs.Common.{◌∙◌, List, Bool, false, replicate, sym, ap, subst, map, drop, arith}
-use Rattle.exo_calls.specs.Marked.{Marked}
-use Rattle.exo_calls.proofs.Sets.{marked_none}
-use Rattle.c_lowered.specs.LoweredUnit.{Printing, is_listed}
+use Rattle.exo_modes.specs.Calls.Marked.{Marked}
+use Rattle.exo_modes.proofs.OfCalls.Sets.{marked_none}
+use Rattle.c_lowering.specs.Made.LoweredUnit.{Printing, is_listed}
 use Rattle.c_printer.specs.PlainPrinted.{printing}
 use Rattle.c_printer.proofs.Lists.{mapped_next, none_mapped}
 use Rattle.c_printer.proofs.Listing.{listed_next}

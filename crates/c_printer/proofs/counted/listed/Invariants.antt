@@ -1,7 +1,7 @@
 -- What is left would add to the set what the whole adds to the empty set.
 use Rattle.std.proofs.Common.{drop, map}
-use Rattle.exo_calls.specs.Marked.{Marked}
-use Rattle.c_lowered.specs.LoweredUnit.{is_listed}
+use Rattle.exo_modes.specs.Calls.Marked.{Marked}
+use Rattle.c_lowering.specs.Made.LoweredUnit.{is_listed}
 use Rattle.c_printer.specs.PlainPrinted.{printing}
 use Rattle.c_printer.proofs.counted.listed.Given as goal
 

@@ -1,9 +1,9 @@
 use Rattle.std.proofs.Common.{refl, sym, subst}
-use Rattle.exo_calls.specs.Marked.{Marked}
-use Rattle.exo_calls.proofs.Sets.{marked_then}
+use Rattle.exo_modes.specs.Calls.Marked.{Marked}
+use Rattle.exo_modes.proofs.OfCalls.Sets.{marked_then}
 use Rattle.exo_tree.specs.Tree.{block}
 use Rattle.exo_tree.specs.PlainStatement.{statement}
-use Rattle.c_lowered.specs.LoweredUnit.{in_block, in_statement}
+use Rattle.c_lowering.specs.Made.LoweredUnit.{in_block, in_statement}
 use Rattle.c_printer.proofs.Marking.{rest_marked}
 use Rattle.c_printer.proofs.fields.+marked.Goals as goal
 

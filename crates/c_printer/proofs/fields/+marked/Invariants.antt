@@ -1,7 +1,7 @@
 use Rattle.std.proofs.Common.{drop}
 use Rattle.exo_tree.specs.Tree.{block}
-use Rattle.exo_calls.specs.Marked.{Marked}
-use Rattle.c_lowered.specs.LoweredUnit.{in_block}
+use Rattle.exo_modes.specs.Calls.Marked.{Marked}
+use Rattle.c_lowering.specs.Made.LoweredUnit.{in_block}
 use Rattle.c_printer.proofs.fields.+marked.Given as goal
 
 abbrev pub decreases-mark_block : goal.decreases-mark_block

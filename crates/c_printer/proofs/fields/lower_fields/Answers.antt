@@ -1,6 +1,6 @@
 use Rattle.std.proofs.Common.{◌∙◌, ap}
-use Rattle.exo_calls.specs.Marked.{contains}
-use Rattle.c_lowered.specs.LoweredUnit.{is_used_from, fields_from}
+use Rattle.exo_modes.specs.Calls.Marked.{contains}
+use Rattle.c_lowering.specs.Made.LoweredUnit.{is_used_from, fields_from}
 use Rattle.c_printer.proofs.Marking.{marked_fields}
 use Rattle.c_printer.proofs.fields.lower_fields.Goals as goal
 

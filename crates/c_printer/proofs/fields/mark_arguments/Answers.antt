@@ -1,6 +1,6 @@
 use Rattle.std.proofs.Common.{refl, arith}
 use Rattle.exo_tree.specs.PlainArgument.{argument}
-use Rattle.c_lowered.specs.LoweredUnit.{in_argument, in_arguments}
+use Rattle.c_lowering.specs.Made.LoweredUnit.{in_argument, in_arguments}
 use Rattle.c_printer.proofs.Lists.{mapped_next}
 use Rattle.c_printer.proofs.Marking.{rest_marked}
 use Rattle.c_printer.proofs.fields.mark_arguments.Goals as goal

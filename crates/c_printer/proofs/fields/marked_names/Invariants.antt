@@ -1,8 +1,8 @@
 -- What is made, and then the names of what is left, are the names of all.
 use Rattle.std.proofs.Common.{◌≡◌, ◌++◌, drop, map}
 use Rattle.exo_tree.specs.PlainTables.{config_field}
-use Rattle.exo_calls.specs.Marked.{contains}
-use Rattle.c_lowered.specs.LoweredUnit.{fields_from}
+use Rattle.exo_modes.specs.Calls.Marked.{contains}
+use Rattle.c_lowering.specs.Made.LoweredUnit.{fields_from}
 use Rattle.c_printer.proofs.fields.marked_names.Given as goal
 
 abbrev pub invariant-loop-k : goal.invariant-loop-k

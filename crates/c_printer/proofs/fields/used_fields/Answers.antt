@@ -1,9 +1,9 @@
 use Rattle.std.proofs.Common.{◌∙◌, ◌+◌, List, Bool, false, replicate, sym, ap, subst, map, drop, arith}
 use Rattle.exo_tree.specs.Tree.{Procedure}
 use Rattle.exo_tree.specs.PlainProcedure.{procedure}
-use Rattle.exo_calls.specs.Marked.{contains, Marked}
-use Rattle.exo_calls.proofs.Sets.{marked_none}
-use Rattle.c_lowered.specs.LoweredUnit.{is_used_from}
+use Rattle.exo_modes.specs.Calls.Marked.{contains, Marked}
+use Rattle.exo_modes.proofs.OfCalls.Sets.{marked_none}
+use Rattle.c_lowering.specs.Made.LoweredUnit.{is_used_from}
 use Rattle.c_widths.proofs.Growing.{drop_none}
 use Rattle.c_printer.proofs.Lists.{mapped_next, none_mapped}
 use Rattle.c_printer.proofs.Marking.{procedures_marked}

@@ -1,8 +1,8 @@
 -- What is left would add to the set what the whole adds to the empty set.
 use Rattle.std.proofs.Common.{drop, map}
 use Rattle.exo_tree.specs.PlainProcedure.{procedure}
-use Rattle.exo_calls.specs.Marked.{contains, Marked}
-use Rattle.c_lowered.specs.LoweredUnit.{is_used_from}
+use Rattle.exo_modes.specs.Calls.Marked.{contains, Marked}
+use Rattle.c_lowering.specs.Made.LoweredUnit.{is_used_from}
 use Rattle.c_printer.proofs.fields.used_fields.Given as goal
 
 abbrev pub invariant-loop-k : goal.invariant-loop-k

@@ -1,6 +1,6 @@
 use Rattle.std.proofs.Common.{◌∙◌, ap}
 use Rattle.exo_tree.specs.PlainProcedure.{procedure}
-use Rattle.c_lowered.specs.Lowered.{block_of, param_forms}
+use Rattle.c_lowering.specs.Made.Lowered.{block_of, param_forms}
 use Rattle.c_lowering.specs.Naming.{naming_of}
 use Rattle.c_printer.proofs.functions.lower_body.Goals as goal
 

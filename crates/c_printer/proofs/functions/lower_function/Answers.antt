@@ -2,12 +2,12 @@ use Rattle.std.proofs.Common.{◌≡◌, ◌∙◌, ap, ap₂, map, string_bytes
 use Rattle.exo_tree.specs.Tree.{block}
 use Rattle.exo_tree.specs.PlainProcedure.{procedure}
 use Rattle.exo_tree.specs.PlainUnit.{program}
-use Rattle.c_names.specs.Binders.{c_names}
+use Rattle.c_tree.specs.Names.Binders.{c_names}
 use Rattle.c_tree.specs.CTree.{cblock}
-use Rattle.c_lowered.specs.Lowered.{block_of}
-use Rattle.c_lowered.specs.LoweredUnit.{naming_in, formals_of}
+use Rattle.c_lowering.specs.Made.Lowered.{block_of}
+use Rattle.c_lowering.specs.Made.LoweredUnit.{naming_in, formals_of}
 use Rattle.c_tree.specs.Plain.{plain_param}
-use Rattle.c_lowered.specs.Lowered.{param_forms}
+use Rattle.c_lowering.specs.Made.Lowered.{param_forms}
 use Rattle.c_printer.proofs.functions.lower_function.Goals as goal
 
 pub returns : goal.returns

@@ -1,7 +1,7 @@
 -- What is made, and then the C of what is left, is the C of the whole.
 use Rattle.std.proofs.Common.{◌≡◌, ◌++◌, drop, map}
 use Rattle.exo_tree.specs.PlainUnit.{program}
-use Rattle.c_lowered.specs.LoweredUnit.{functions_of}
+use Rattle.c_lowering.specs.Made.LoweredUnit.{functions_of}
 use Rattle.c_tree.specs.Plain.{plain_function}
 use Rattle.c_printer.specs.PlainPrinted.{printing}
 use Rattle.c_printer.proofs.functions.lower_functions.Given as goal

@@ -2,7 +2,7 @@
 use Rattle.std.proofs.Common.{◌≡◌, ◌++◌, drop, map}
 use Rattle.exo_tree.specs.PlainUnit.{program}
 use Rattle.c_printer.specs.PlainPrinted.{printing}
-use Rattle.c_lowered.specs.LoweredUnit.{printed_names}
+use Rattle.c_lowering.specs.Made.LoweredUnit.{printed_names}
 use Rattle.c_printer.proofs.globals.global_names.Given as goal
 
 abbrev pub invariant-loop-field : goal.invariant-loop-field

@@ -3,7 +3,7 @@ use Rattle.std.proofs.Common.{◌≡◌, ◌+◌, ◌*◌, drop}
 use Rattle.exo_tree.specs.Tree.{block}
 use Rattle.exo_tree.specs.Nodes.{nodes, nodes_of}
 use Rattle.exo_tree.specs.PlainStatement.{statement}
-use Rattle.c_lowered.specs.LoweredUnit.{stands_in}
+use Rattle.c_lowering.specs.Made.LoweredUnit.{stands_in}
 use Rattle.c_printer.proofs.headers.+made.Given as goal
 
 abbrev pub decreases-stands_in : goal.decreases-stands_in

@@ -3,7 +3,7 @@ use Rattle.std.proofs.Common.{◌≡◌, ◌++◌, [], drop, map}
 use Rattle.exo_tree.specs.PlainTables.{memory_kind}
 use Rattle.exo_tree.specs.PlainUnit.{program}
 use Rattle.c_printer.specs.PlainPrinted.{printing}
-use Rattle.c_lowered.specs.LoweredUnit.{is_filled, headers_from}
+use Rattle.c_lowering.specs.Made.LoweredUnit.{is_filled, headers_from}
 use Rattle.c_printer.proofs.headers.used_headers.Given as goal
 
 abbrev pub invariant-loop-k : goal.invariant-loop-k

@@ -1,6 +1,6 @@
 -- The names so far.
 use Rattle.std.proofs.Common.{◌≡◌, take, map, string_bytes}
-use Rattle.c_lowered.specs.LoweredUnit.{named_field, field_word}
+use Rattle.c_lowering.specs.Made.LoweredUnit.{named_field, field_word}
 use Rattle.c_printer.proofs.report.report_fields.Given as goal
 
 abbrev pub invariant-loop-f : goal.invariant-loop-f

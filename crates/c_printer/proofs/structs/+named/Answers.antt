@@ -3,7 +3,7 @@ use Rattle.std.proofs.lemmas.List.{drop_all}
 use Rattle.std.proofs.lemmas.Result.{on_ok_weaker}
 use Rattle.c_tree.specs.CTree.{cblock}
 use Rattle.c_tree.specs.Plain.{plain_statement}
-use Rattle.c_lowered.specs.LoweredUnit.{struct_in, struct_in_block}
+use Rattle.c_lowering.specs.Made.LoweredUnit.{struct_in, struct_in_block}
 use Rattle.c_printer.specs.Found.{Found}
 use Rattle.c_printer.proofs.Finding.{found_then, rest_found, nothing_left}
 use Rattle.c_printer.proofs.structs.+named.Goals as goal

@@ -3,7 +3,7 @@ use Rattle.std.proofs.Common.{◌+◌, ◌*◌, drop}
 use Rattle.c_tree.specs.CTree.{cblock}
 use Rattle.c_tree.specs.Sizes.{nodes, nodes_of}
 use Rattle.c_tree.specs.Plain.{plain_statement}
-use Rattle.c_lowered.specs.LoweredUnit.{struct_in_block}
+use Rattle.c_lowering.specs.Made.LoweredUnit.{struct_in_block}
 use Rattle.c_printer.specs.Found.{Found}
 use Rattle.c_printer.proofs.structs.+named.Given as goal
 

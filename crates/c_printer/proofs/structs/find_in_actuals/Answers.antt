@@ -1,7 +1,7 @@
 use Rattle.std.proofs.Common.{refl, arith}
 use Rattle.std.specs.List.{list_any}
 use Rattle.c_tree.specs.Plain.{plain_actual}
-use Rattle.c_lowered.specs.LoweredUnit.{in_actual}
+use Rattle.c_lowering.specs.Made.LoweredUnit.{in_actual}
 use Rattle.c_printer.proofs.Lists.{mapped_next, none_mapped}
 use Rattle.c_printer.proofs.Finding.{rest_found, nothing_left}
 use Rattle.c_printer.proofs.structs.find_in_actuals.Goals as goal

@@ -2,7 +2,7 @@
 use Rattle.std.proofs.Common.{drop, map}
 use Rattle.std.specs.List.{list_any}
 use Rattle.c_tree.specs.Plain.{plain_param}
-use Rattle.c_lowered.specs.LoweredUnit.{in_formal}
+use Rattle.c_lowering.specs.Made.LoweredUnit.{in_formal}
 use Rattle.c_printer.specs.Found.{Found}
 use Rattle.c_printer.proofs.structs.find_in_params.Given as goal
 

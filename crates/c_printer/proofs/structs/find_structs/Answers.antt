@@ -1,7 +1,7 @@
 use Rattle.std.proofs.Common.{refl, map, subst, arith}
 use Rattle.std.specs.List.{list_any}
 use Rattle.c_tree.specs.Plain.{plain_function}
-use Rattle.c_lowered.specs.LoweredUnit.{names_struct}
+use Rattle.c_lowering.specs.Made.LoweredUnit.{names_struct}
 use Rattle.c_printer.specs.Found.{Found}
 use Rattle.c_printer.proofs.Lists.{mapped_next, none_mapped}
 use Rattle.c_printer.proofs.Finding.{rest_found, nothing_left}

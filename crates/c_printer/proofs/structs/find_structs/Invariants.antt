@@ -2,7 +2,7 @@
 use Rattle.std.proofs.Common.{drop, map}
 use Rattle.std.specs.List.{list_any}
 use Rattle.c_tree.specs.Plain.{plain_function}
-use Rattle.c_lowered.specs.LoweredUnit.{names_struct}
+use Rattle.c_lowering.specs.Made.LoweredUnit.{names_struct}
 use Rattle.c_printer.specs.Found.{Found}
 use Rattle.c_printer.proofs.structs.find_structs.Given as goal
 

@@ -1,7 +1,7 @@
 use Rattle.std.proofs.Common.{map, arith}
 use Rattle.std.specs.List.{filter}
 use Rattle.c_tree.specs.Plain.{plain_struct}
-use Rattle.c_lowered.specs.LoweredUnit.{all_structs}
+use Rattle.c_lowering.specs.Made.LoweredUnit.{all_structs}
 use Rattle.c_printer.specs.Found.{has}
 use Rattle.c_printer.proofs.Ranks.{next_rank}
 use Rattle.c_printer.proofs.structs.listed_structs.Goals as goal

@@ -2,7 +2,7 @@
 use Rattle.std.proofs.Common.{◌≡◌, ◌-◌, suc, ◌++◌, map}
 use Rattle.std.specs.List.{filter}
 use Rattle.c_tree.specs.Plain.{plain_struct}
-use Rattle.c_lowered.specs.LoweredUnit.{structs_from, all_structs}
+use Rattle.c_lowering.specs.Made.LoweredUnit.{structs_from, all_structs}
 use Rattle.c_printer.specs.Found.{has}
 use Rattle.c_printer.proofs.structs.listed_structs.Given as goal
 

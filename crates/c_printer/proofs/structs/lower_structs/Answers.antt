@@ -1,6 +1,6 @@
 use Rattle.std.proofs.Common.{◌∙◌, map}
 use Rattle.c_tree.specs.Plain.{plain_function}
-use Rattle.c_lowered.specs.LoweredUnit.{all_structs}
+use Rattle.c_lowering.specs.Made.LoweredUnit.{all_structs}
 use Rattle.c_printer.proofs.Ranks.{found_are}
 use Rattle.c_printer.proofs.structs.lower_structs.Goals as goal
 

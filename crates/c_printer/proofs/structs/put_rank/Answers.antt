@@ -5,7 +5,7 @@ use Rattle.exo_tree.specs.declared.number.Cell.TheVariants.{I8}
 use Rattle.exo_tree.specs.PlainBinder.{cell_type}
 use Rattle.c_tree.specs.CTree.{StructOf}
 use Rattle.c_tree.specs.Plain.{plain_struct}
-use Rattle.c_lowered.specs.LoweredUnit.{struct_at}
+use Rattle.c_lowering.specs.Made.LoweredUnit.{struct_at}
 use Rattle.c_printer.specs.Found.{has}
 use Rattle.c_printer.proofs.Ranks.{more_kept}
 use Rattle.c_printer.proofs.structs.put_rank.Goals as goal

@@ -3,7 +3,7 @@ use Rattle.std.proofs.Common.{◌≡◌, ◌++◌, map, drop}
 use Rattle.std.specs.List.{filter}
 use Rattle.exo_tree.specs.PlainBinder.{cell_type}
 use Rattle.c_tree.specs.Plain.{plain_struct}
-use Rattle.c_lowered.specs.LoweredUnit.{struct_at}
+use Rattle.c_lowering.specs.Made.LoweredUnit.{struct_at}
 use Rattle.c_printer.specs.Found.{has}
 use Rattle.c_printer.proofs.structs.put_rank.Given as goal
 

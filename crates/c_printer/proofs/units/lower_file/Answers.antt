@@ -2,7 +2,8 @@ use Rattle.std.proofs.Common.{◌≡◌, ◌∙◌, ap, sym, map, string_bytes}
 use Rattle.exo_tree.specs.PlainUnit.{program}
 use Rattle.c_tree.specs.Plain.{plain_line, plain_struct, plain_function}
 use Rattle.c_tree.proofs.Maps.{map_of_map}
-use Rattle.c_lowered.specs.LoweredUnit.{line_of, structs_of, fields_of, functions_of, global_names}
+use Rattle.c_lowering.specs.Made.LoweredUnit.{line_of, structs_of, fields_of, functions_of}
+use Rattle.c_lowering.specs.Made.LoweredUnit.{global_names}
 use Rattle.c_printer.specs.PlainPrinted.{printing}
 use Rattle.c_printer.proofs.units.lower_file.Goals as goal
 

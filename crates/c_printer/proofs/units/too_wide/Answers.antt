@@ -1,7 +1,7 @@
 use Rattle.std.proofs.Common.{◌∙◌, ◌||◌, ap, map, length, arith}
 use Rattle.exo_tree.specs.PlainUnit.{program}
-use Rattle.exo_calls.specs.Marked.{contains}
-use Rattle.c_lowered.specs.LoweredUnit.{is_listed, counts}
+use Rattle.exo_modes.specs.Calls.Marked.{contains}
+use Rattle.c_lowering.specs.Made.LoweredUnit.{is_listed, counts}
 use Rattle.c_printer.specs.PlainPrinted.{printing}
 use Rattle.c_printer.proofs.Marking.{none_in, length_none}
 use Rattle.c_printer.proofs.units.too_wide.Goals as goal

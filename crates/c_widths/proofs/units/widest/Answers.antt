@@ -1,7 +1,7 @@
 use Rattle.std.proofs.Common.{◌≡◌, ◌∙◌, ◌-◌, ◌+◌, length, sym, ap, subst, true, false}
 use Rattle.exo_tree.specs.PlainProcedure.{procedure}
 use Rattle.exo_tree.specs.PlainUnit.{program}
-use Rattle.exo_calls.specs.Marked.{contains}
+use Rattle.exo_modes.specs.Calls.Marked.{contains}
 use Rattle.c_widths.specs.Raises.{most_from, is_narrow_by, memories_for}
 use Rattle.c_widths.specs.Given.{given_in}
 use Rattle.c_widths.proofs.Searching.{IsDone, fits_by, done_start, done_with, done_without, wide_here}

@@ -3,7 +3,7 @@ use Rattle.exo_tree.specs.Tree.{block}
 use Rattle.exo_tree.specs.PlainProcedure.{procedure}
 use Rattle.exo_tree.specs.PlainUnit.{program}
 use Rattle.affine_places.specs.Seen.{roots_in}
-use Rattle.unify_laws.proofs.Simplify.{rooted_is}
+use Rattle.call_laws.proofs.Simplify.{rooted_is}
 use Rattle.call_rewrites.proofs.Simplified.{without_extents, simplified_rooted}
 use Rattle.call_rewrites.proofs.simplifying.simplified_in.Goals as goal
 

@@ -4,7 +4,7 @@ use Rattle.exo_tree.specs.PlainStatement.{statement}
 use Rattle.exo_tree.specs.PlainUnit.{program}
 use Rattle.affine_places.specs.Seen.{roots_in}
 use Rattle.text_show.specs.Seen.{words_in}
-use Rattle.check_claims.specs.Claims.{into}
+use Rattle.exo_tree.specs.Places.{path_below}
 use Rattle.check_claims.specs.PlainClaim.{placed}
 use Rattle.check_claims.specs.Seen.{extents_in}
 use Rattle.check_claims.proofs.Placing.{placed_on}
@@ -40,7 +40,7 @@ put_block_places-loop-k-preserved t c =
     let r = roots_in c.args.site.now.roots.now in
     let s = statement c.statement-s.result.now in
     let ss = drop c.loop-k.k c.args.b.now in
-    let here = into c.args.outer.now (branch_taken c.args.branch) c.loop-k.k in
+    let here = path_below c.args.outer.now (branch_taken c.args.branch) c.loop-k.k in
     record {
       made = placed_on w u e r c.args.outer.now (branch_taken c.args.branch) c.loop-k.k
           (map placed c.loop-k.out.items, c.loop-k.window) _ _ _ here s ss _

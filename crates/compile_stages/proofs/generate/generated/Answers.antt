@@ -1,5 +1,5 @@
 use Rattle.std.proofs.Common.{◌≡◌, ◌∙◌, List, ℕ, IfSome, string_bytes, subst}
-use Rattle.generated_texts.specs.Texts.{unit_text, schedule_text}
+use Rattle.compile_stages.specs.Samples.Texts.{unit_text, schedule_text}
 use Rattle.compile_stages.specs.Stages.{Leads, Schedules, summed}
 use Rattle.compile_stages.specs.Stopping.{stage}
 use Rattle.compile_stages.proofs.generate.generated.Goals as goal

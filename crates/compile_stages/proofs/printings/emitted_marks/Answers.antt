@@ -1,5 +1,5 @@
 use Rattle.std.proofs.Common.{subst}
-use Rattle.exo_calls.specs.Marked.{Marked}
+use Rattle.exo_modes.specs.Calls.Marked.{Marked}
 use Rattle.compile_stages.specs.Printings.{is_emitted}
 use Rattle.compile_stages.proofs.Listing.{numbers_of, emitted_then, emitted_end}
 use Rattle.compile_stages.proofs.printings.emitted_marks.Goals as goal

@@ -1,7 +1,7 @@
 use Rattle.std.proofs.Common.{◌≡◌, ◌+◌, ◌++◌, ◌∷◌, [], drop, map, sym, ap, ◌∙◌}
 use Rattle.std.proofs.lemmas.List.{map-append}
 use Rattle.exo_tree.specs.PlainProcedure.{procedure}
-use Rattle.exo_calls.specs.Marked.{contains}
+use Rattle.exo_modes.specs.Calls.Marked.{contains}
 use Rattle.c_printer.specs.PlainPrinted.{printing}
 use Rattle.schedule_run.specs.PlainVersions.{versions}
 use Rattle.compile_stages.specs.Printings.{printing_of}

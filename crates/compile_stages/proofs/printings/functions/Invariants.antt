@@ -1,6 +1,6 @@
 -- What is made, and then what is left, are all.
 use Rattle.std.proofs.Common.{◌≡◌, ◌++◌, drop, map}
-use Rattle.exo_calls.specs.Marked.{contains}
+use Rattle.exo_modes.specs.Calls.Marked.{contains}
 use Rattle.c_printer.specs.PlainPrinted.{printing}
 use Rattle.c_unit_laws.specs.Listings.{printings_from}
 use Rattle.schedule_run.specs.PlainVersions.{versions}

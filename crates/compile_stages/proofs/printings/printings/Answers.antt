@@ -1,8 +1,8 @@
 use Rattle.std.proofs.Common.{◌≡◌, List, ◌∙◌, arith, subst}
 use Rattle.exo_tree.specs.declared.number.ProcId.{ProcId}
-use Rattle.exo_calls.specs.Closed.{closed}
-use Rattle.exo_calls.specs.Marked.{contains}
-use Rattle.exo_calls.specs.Passed.{is_function}
+use Rattle.exo_modes.specs.Calls.Closed.{closed}
+use Rattle.exo_modes.specs.Calls.Marked.{contains}
+use Rattle.exo_modes.specs.Calls.Passed.{is_function}
 use Rattle.schedule_run.specs.PlainVersions.{versions}
 use Rattle.compile_stages.specs.Printings.{is_emitted, printing_of}
 use Rattle.compile_stages.proofs.Listing.{numbers_of, same_printings}

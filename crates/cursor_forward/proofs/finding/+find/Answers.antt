@@ -3,7 +3,7 @@ use Rattle.std.specs.Prelude.{◌^◌, slice_get}
 use Rattle.exo_tree.specs.Places.{Path}
 use Rattle.exo_tree.specs.Plain.{program, statement}
 use Rattle.exo_tree.specs.PlainPlace.{branch_taken}
-use Rattle.cursor_patterns.specs.PlainPattern.{plain_pattern}
+use Rattle.cursor_forward.specs.Search.PlainPattern.{plain_pattern}
 use Rattle.cursor_forward.specs.Patterns.{matching_at}
 use Rattle.cursor_forward.proofs.Searching.{found_here, walks_on, short_block}
 use Rattle.cursor_forward.proofs.finding.+find.Goals as goal

@@ -3,7 +3,7 @@ use Rattle.std.proofs.Common.{◌+◌, ◌*◌}
 use Rattle.exo_tree.specs.Nodes.{nodes, nodes_of}
 use Rattle.exo_tree.specs.Plain.{program, statement}
 use Rattle.exo_tree.specs.PlainPlace.{branch_taken}
-use Rattle.cursor_patterns.specs.PlainPattern.{plain_pattern}
+use Rattle.cursor_forward.specs.Search.PlainPattern.{plain_pattern}
 use Rattle.cursor_forward.proofs.Searching.{IsWalked}
 use Rattle.cursor_forward.proofs.finding.+find.Given as goal
 

@@ -1,5 +1,5 @@
 use Rattle.std.proofs.Common.{ℕ, ◌≤◌, List, [], length, sym, subst}
-use Rattle.cli_outside.specs.Outside.{HasBytes}
+use Rattle.exo_cli.specs.Outside.Outside.{HasBytes}
 use Rattle.compile_stages.specs.Stages.{Checks}
 use Rattle.exo_cli.specs.Answer.{answer_of}
 use Rattle.exo_cli.specs.Replies.{plain}

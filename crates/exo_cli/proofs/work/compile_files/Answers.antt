@@ -1,5 +1,5 @@
 use Rattle.std.proofs.Common.{ℕ, ◌≤◌, List, length, refl, sym, subst, ◌∙◌, arith}
-use Rattle.cli_outside.specs.Outside.{HasBytes}
+use Rattle.exo_cli.specs.Outside.Outside.{HasBytes}
 use Rattle.compile_stages.specs.Stages.{Compiles}
 use Rattle.exo_cli.specs.Words.{Compile}
 use Rattle.exo_cli.specs.Answer.{answer_of, IsAnswerOf}

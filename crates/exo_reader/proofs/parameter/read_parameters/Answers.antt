@@ -23,7 +23,7 @@ pub more-init : goal.more-init
 more-init c = rw (c.in_ok-push.ensures.items, c.new-items.ensures.items) (enclosed_first _ _ _ _ _ _ can_enclose (λ ends. let h : false ≡ true = c.if-stands_first.ensures.1 ends in cc) c.in_ok-first.ensures)
 
 pub returns-then-len-ge-PARAMETERS : goal.returns-then-len-ge-PARAMETERS
-returns-then-len-ge-PARAMETERS c = many_parameters _ _ _ _ _ c.more.invariant c.in-Some.ensures (λ ends. let h : false ≡ true = c.if-stands_first-2.ensures.1 ends in cc) (omega arith) c.refuse_parameter.ensures
+returns-then-len-ge-PARAMETERS c = many_parameters _ _ _ _ _ c.more.invariant c.in-Some.ensures (λ ends. let h : false ≡ true = c.if-stands_first-2.ensures.1 ends in cc) (omega arith) c.refuse_item.ensures
 
 pub returns : goal.returns
 returns c = enclosed_done _ _ _ _ _ _ can_enclose c.more.invariant c.in_default.ensures

@@ -2,7 +2,7 @@ use Rattle.std.proofs.Common.{map, ap, ◌∙◌}
 use Rattle.exo_meaning.specs.Units.{with_name, view_sort}
 use Rattle.exo_reader.specs.Views.{plain_coordinate}
 use Rattle.rules_names.specs.Names.{named_in, sort_of, id_in}
-use Rattle.rules_names.specs.Tables.{sort_meant}
+use Rattle.exo_modes.specs.Sorts.{sort_meant}
 use Rattle.exo_types.specs.TypeRules.{binder}
 use Rattle.exo_types.proofs.Broken.{exit, refuses_first, kept_none, kept_err, is_free}
 use Rattle.exo_types.proofs.Bound.{viewed}

@@ -1,7 +1,7 @@
 use Rattle.std.proofs.Common.{◌≡◌, length, map, sym, ◌∙◌}
 use Rattle.config_live.specs.Origins.{number}
 use Rattle.config_laws.specs.FieldRule.{any_live}
-use Rattle.field_laws.specs.FieldRules.{are_fields}
+use Rattle.call_laws.specs.Fields.FieldRules.{are_fields}
 use Rattle.step_driver.specs.PlainTarget.{target}
 use Rattle.field_rewrites.specs.Beside.{opening, one_is_live}
 use Rattle.field_rewrites.proofs.Causes.{all_refuse, nothing_refuses, any_known}

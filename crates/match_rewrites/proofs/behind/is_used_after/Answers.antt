@@ -1,7 +1,7 @@
 use Rattle.std.proofs.Common.{◌∙◌}
 use Rattle.exo_tree.specs.Places.{opened}
 use Rattle.exo_tree.specs.PlainProcedure.{procedure}
-use Rattle.block_pairs.specs.Held.{ids_in}
+use Rattle.block_matches.specs.Pairs.Held.{ids_in}
 use Rattle.meaning_laws.specs.Scoped.{has_binder}
 use Rattle.std.proofs.Common.{ap}
 use Rattle.match_rewrites.proofs.Unified.{used_same}

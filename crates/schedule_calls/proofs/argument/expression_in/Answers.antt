@@ -1,6 +1,6 @@
 use Rattle.std.proofs.Common.{sym, subst}
 use Rattle.std.specs.Prelude.{IfOk}
-use Rattle.cursor_patterns.specs.PlainPattern.{plain_expr_pattern}
+use Rattle.cursor_forward.specs.Search.PlainPattern.{plain_expr_pattern}
 use Rattle.schedule_text.specs.Views.{plain_argument}
 use Rattle.schedule_calls.specs.Answers.{AsksOne}
 use Rattle.schedule_calls.specs.Readings.{AsksExpression}

@@ -2,7 +2,7 @@ use Rattle.std.proofs.Common.{◌≡◌, true, refl, sym, subst, List, ap₂}
 use Rattle.exo_tree.specs.Tree.{Program}
 use Rattle.exo_tree.specs.PlainProcedure.{procedure}
 use Rattle.config_laws.specs.Differing.{Origin}
-use Rattle.cursor_patterns.specs.PlainPattern.{plain_expr_pattern}
+use Rattle.cursor_forward.specs.Search.PlainPattern.{plain_expr_pattern}
 use Rattle.cursor_forward.specs.PlainProposal.{plain_proposal}
 use Rattle.alloc_laws.specs.Bind.Binding.{bind_rule}
 use Rattle.step_driver.specs.PlainTarget.{target}

@@ -12,11 +12,11 @@ use Rattle.schedule_run.proofs.changed.+changed.Goals as goal
 pub changed_in-returns : goal.changed_in-returns
 changed_in-returns t c =
     IfSome_then c.changed_at.result c.changed_at.ensures
-    (λ found s. in_block c.args.outer.now c.into-path.result found (branch_taken c.args.branch)
+    (λ found s. in_block c.args.outer.now c.below-path.result found (branch_taken c.args.branch)
     c.same_first-index.result c.args.old.now c.args.new.now
     (drop (c.same_first-index.result + 1) c.args.old.now)
     (drop (c.same_first-index.result + 1) c.args.new.now) (statement c.statement.result.now)
-    (statement c.statement-2.result.now) c.into-path.ensures c.same_first-index.ensures
+    (statement c.statement-2.result.now) c.below-path.ensures c.same_first-index.ensures
     c.statement.ensures.value c.statement-2.ensures.value
     (c.same_from.ensures c.if-not-same_from.false) s)
 

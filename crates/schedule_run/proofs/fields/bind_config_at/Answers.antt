@@ -5,7 +5,7 @@ use Rattle.exo_tree.specs.PlainProcedure.{procedure}
 use Rattle.rules_names.specs.Names.{field_in}
 use Rattle.cursor_forward.specs.Proposals.{Plan}
 use Rattle.cursor_forward.specs.PlainProposal.{plain_proposal}
-use Rattle.field_laws.specs.FieldRules.{bind_rule}
+use Rattle.call_laws.specs.Fields.FieldRules.{bind_rule}
 use Rattle.schedule_calls.specs.PlainRequest.{plain_asked}
 use Rattle.schedule_laws.specs.Operators.Arguments.{field_named}
 use Rattle.schedule_run.specs.Outcomes.{Makes}

@@ -2,7 +2,7 @@ use Rattle.std.proofs.Common.{◌≡◌, Some, None, sym, ap, ◌∙◌, subst}
 use Rattle.exo_tree.specs.PlainProcedure.{procedure}
 use Rattle.cursor_forward.specs.Proposals.{Plan}
 use Rattle.cursor_forward.specs.PlainProposal.{plain_proposal}
-use Rattle.field_laws.specs.FieldRules.{version_rule}
+use Rattle.call_laws.specs.Fields.FieldRules.{version_rule}
 use Rattle.schedule_calls.specs.PlainRequest.{plain_asked}
 use Rattle.schedule_laws.specs.Versions.Versions.{version_of}
 use Rattle.schedule_laws.specs.Operators.Arguments.{version_named}

@@ -6,7 +6,7 @@ use Rattle.exo_tree.specs.PlainProcedure.{procedure}
 use Rattle.exo_tree.specs.declared.number.ProcId.{ProcId}
 use Rattle.config_laws.specs.Differing.{Origin}
 use Rattle.cursor_forward.specs.PlainProposal.{plain_proposal}
-use Rattle.unify_laws.specs.Replace.Rule.{replace_rule}
+use Rattle.call_laws.specs.Replace.Rule.{replace_rule}
 use Rattle.step_rules.specs.Answer.{proposed}
 use Rattle.step_driver.specs.PlainTarget.{target, plain_piece}
 use Rattle.schedule_calls.specs.PlainRequest.{plain_asked}

@@ -10,7 +10,7 @@ use Rattle.rules_names.specs.Arguments.{knows_fields}
 use Rattle.rules_names.specs.Names.{field_in}
 use Rattle.rules_names.specs.Tables.{found_field}
 use Rattle.cursor_forward.specs.PlainProposal.{plain_proposal}
-use Rattle.field_laws.specs.FieldRules.{write_rule}
+use Rattle.call_laws.specs.Fields.FieldRules.{write_rule}
 use Rattle.step_rules.specs.Answer.{proposed}
 use Rattle.step_rules.specs.Lawful.{config_side}
 use Rattle.step_driver.specs.PlainTarget.{target}

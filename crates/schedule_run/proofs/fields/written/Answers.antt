@@ -3,7 +3,7 @@ use Rattle.exo_tree.specs.Tree.{Argument}
 use Rattle.exo_tree.specs.PlainArgument.{argument}
 use Rattle.cursor_forward.specs.PlainCursor.{plain_side}
 use Rattle.cursor_forward.specs.PlainProposal.{plain_proposal}
-use Rattle.field_laws.specs.FieldRules.{write_rule}
+use Rattle.call_laws.specs.Fields.FieldRules.{write_rule}
 use Rattle.step_rules.specs.Lawful.{config_side}
 use Rattle.step_rules.specs.Answer.{proposed}
 use Rattle.step_driver.specs.PlainTarget.{target}

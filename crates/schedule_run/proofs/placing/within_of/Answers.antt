@@ -7,4 +7,4 @@ returns c =
     let some : 0 < length c.in_ok-last.up.now =
     grind (arith, c.is_empty.ensures, c.if-is_empty.false, c.if-is_empty.ensures) in
     within_found c.args.path.now c.as_slice.result.now c.as_slice.ensures.value
-    c.in_ok-last.up.now c.in_ok-last.last.now c.in_ok-last.ensures.cases.0 some _ c.path_of.ensures
+    c.in_ok-last.up.now c.in_ok-last.last.now c.in_ok-last.ensures.cases.0 some _ c.from_steps.ensures

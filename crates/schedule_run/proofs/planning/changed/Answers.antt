@@ -5,7 +5,7 @@ use Rattle.loop_laws.specs.DivideLoop.{Division, divide_rule}
 use Rattle.loop_laws.specs.Specialize.{specialize_rule}
 use Rattle.alloc_laws.specs.Expanding.{expand_rule}
 use Rattle.alloc_laws.specs.Stage.Staging.{stage_rule}
-use Rattle.field_laws.specs.FieldRules.{write_rule}
+use Rattle.call_laws.specs.Fields.FieldRules.{write_rule}
 use Rattle.step_rules.specs.Lawful.{config_side}
 use Rattle.schedule_calls.specs.PlainRequest.{plain_asked, plain_division}
 use Rattle.schedule_calls.specs.declared.request.Division as written

@@ -1,6 +1,6 @@
 use Rattle.std.proofs.Common.{sym, ◌∙◌}
 use Rattle.affine_systems.specs.Outcomes.{plain_obligation}
-use Rattle.owed_laws.specs.Stores.{stands_at}
+use Rattle.schedule_laws.specs.Owed.Stores.{stands_at}
 use Rattle.schedule_run.proofs.Counted.{passed_none, passed_more, passed_until, passed_all}
 use Rattle.schedule_run.proofs.splicing.count_before.Goals as goal
 

@@ -1,5 +1,5 @@
 use Rattle.affine_systems.specs.Outcomes.{plain_obligation}
-use Rattle.owed_laws.specs.Stores.{stands_at}
+use Rattle.schedule_laws.specs.Owed.Stores.{stands_at}
 use Rattle.schedule_run.proofs.Counted.{PassedOver}
 use Rattle.schedule_run.proofs.splicing.count_before.Given as goal
 

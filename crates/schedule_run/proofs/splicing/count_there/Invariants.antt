@@ -1,6 +1,6 @@
 use Rattle.std.proofs.Common.{not}
 use Rattle.affine_systems.specs.Outcomes.{plain_obligation}
-use Rattle.owed_laws.specs.Stores.{stands_at}
+use Rattle.schedule_laws.specs.Owed.Stores.{stands_at}
 use Rattle.schedule_run.proofs.Counted.{PassedOver}
 use Rattle.schedule_run.proofs.splicing.count_there.Given as goal
 

@@ -1,7 +1,7 @@
 use Rattle.std.proofs.Common.{◌≡◌, ◌<◌, ◌≤◌, not, map, length, ap, ◌∙◌, subst, arith}
 use Rattle.std.specs.List.{position_or_len}
 use Rattle.affine_systems.specs.Outcomes.{plain_obligation}
-use Rattle.owed_laws.specs.Stores.{stands_at}
+use Rattle.schedule_laws.specs.Owed.Stores.{stands_at}
 use Rattle.schedule_run.proofs.Counted.{count_within}
 use Rattle.schedule_run.proofs.Spliced.{both_some, is_spliced}
 use Rattle.schedule_run.proofs.splicing.spliced.Goals as goal

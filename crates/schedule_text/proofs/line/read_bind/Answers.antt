@@ -9,4 +9,4 @@ pub returns-in_err-bound : goal.returns-in_err-bound
 returns-in_err-bound c = exit _ _ _ _ _ _ c.from_residual.ensures.1 (whole_err _ _ _ _ _ _ (step_bind _ _ c.requires) (now bind1 _ _ c.in_err-bound.ensures))
 
 pub returns : goal.returns
-returns c = reads_ended _ _ _ _ _ _ plain_statement _ (λ x. x.0) (λ x. x.1.now) _ (step_bind _ _ c.requires) bind1 c.in_ok-bound.ensures c.followed_by.ensures.reads c.followed_by.ensures.same refl
+returns c = reads_ended _ _ _ _ _ _ plain_statement _ (λ x. x.0) (λ x. x.1.now) _ (step_bind _ _ c.requires) bind1 c.in_ok-bound.ensures c.followed_by.ensures (λ s. refl)

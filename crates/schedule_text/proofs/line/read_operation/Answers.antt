@@ -9,4 +9,4 @@ pub returns-in_err-arguments : goal.returns-in_err-arguments
 returns-in_err-arguments c = exit _ _ _ _ _ _ c.from_residual.ensures.1 (whole_err _ _ _ _ _ _ (step_operation _ _ c.requires.short c.requires.no_find) (now operation1 _ _ c.in_err-arguments.ensures))
 
 pub returns : goal.returns
-returns c = reads_ended _ _ _ _ _ _ plain_act _ (λ x. x.0) (λ x. x.1.now) _ (step_operation _ _ c.requires.short c.requires.no_find) operation1 c.in_ok-arguments.ensures c.followed_by.ensures.reads c.followed_by.ensures.same refl
+returns c = reads_ended _ _ _ _ _ _ plain_act _ (λ x. x.0) (λ x. x.1.now) _ (step_operation _ _ c.requires.short c.requires.no_find) operation1 c.in_ok-arguments.ensures c.followed_by.ensures (λ s. refl)

@@ -9,7 +9,7 @@ pub returns-in_err-statement-clause-lines : goal.returns-in_err-statement-clause
 returns-in_err-statement-clause-lines c = text_exit _ _ _ _ _ c.from_residual.ensures.1 (lines_err _ _ _ _ _ _ c.more.invariant.items (omega arith) c.in-Some.ensures c.in_err-statement.ensures)
 
 pub returns-then-len-ge-LINES-clause-lines : goal.returns-then-len-ge-LINES-clause-lines
-returns-then-len-ge-LINES-clause-lines c = many_lines _ _ _ _ _ _ c.more.invariant.items c.more.invariant.few (omega arith) c.in-Some.ensures c.refuse_line.ensures
+returns-then-len-ge-LINES-clause-lines c = many_lines _ _ _ _ _ _ c.more.invariant.items c.more.invariant.few (omega arith) c.in-Some.ensures c.refuse_item.ensures
 
 pub more-init : goal.more-init
 more-init c = record {

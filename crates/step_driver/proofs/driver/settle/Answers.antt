@@ -1,8 +1,8 @@
 use Rattle.std.proofs.Common.{◌≡◌, ℕ, ap, ◌∙◌}
 use Rattle.exo_tree.specs.Tree.{block, Procedure}
 use Rattle.exo_tree.specs.PlainProcedure.{procedure}
-use Rattle.tree_rules.specs.declared.findings.Findings.{Findings}
-use Rattle.tree_rules.specs.Findings.{findings_of_version}
+use Rattle.tree_findings.specs.declared.findings.Findings.{Findings}
+use Rattle.tree_findings.specs.Findings.{findings_of_version}
 use Rattle.cursor_forward.specs.PlainProposal.{plain_proposal}
 use Rattle.cursor_forward.specs.Proposals.{Plan}
 use Rattle.step_driver.specs.PlainTarget.{target, plain_piece}

@@ -1,8 +1,8 @@
 use Rattle.std.proofs.Common.{◌≡◌, List, map, IfOk, ap, ◌∙◌, subst}
-use Rattle.tree_rules.specs.declared.findings.Findings.{Findings}
+use Rattle.tree_findings.specs.declared.findings.Findings.{Findings}
 use Rattle.step_rules.specs.Rule.{Need}
 use Rattle.step_rules.specs.Owing.{findings_of_needs}
-use Rattle.step_needs.specs.PlainNeed.{plain_need}
+use Rattle.step_driver.specs.Needs.PlainNeed.{plain_need}
 use Rattle.step_driver.specs.PlainTarget.{target}
 use Rattle.step_driver.proofs.owing.needed.Goals as goal
 

@@ -2,8 +2,8 @@ use Rattle.std.proofs.Common.{◌≡◌, List, map, ap, ◌∙◌, subst, sym, t
 use Rattle.affine_systems.specs.Outcomes.{plain_obligation}
 use Rattle.step_rules.specs.Rule.{Need}
 use Rattle.step_rules.specs.Owing.{findings_of_needs, owed_needs}
-use Rattle.step_needs.specs.Outcomes.{Tries}
-use Rattle.step_needs.specs.PlainNeed.{plain_need}
+use Rattle.step_driver.specs.Needs.Outcomes.{Tries}
+use Rattle.step_driver.specs.Needs.PlainNeed.{plain_need}
 use Rattle.step_driver.specs.PlainTarget.{target}
 use Rattle.step_driver.proofs.owing.owed.Goals as goal
 

@@ -1,11 +1,12 @@
 use Rattle.std.proofs.Common.{◌≡◌, ◌∷◌, ◌<◌, map, length, List, Option, Some, None, ap, sym, ◌∙◌, arith}
 use Rattle.std.proofs.lemmas.Option.{slice_get-map, slice_get_within}
 use Rattle.std.specs.Prelude.{ℕ, option_map}
+use Rattle.exo_tree.specs.Nodes.{capped}
 use Rattle.exo_tree.specs.Tree.{Statement, block}
 use Rattle.exo_tree.specs.Places.{Path}
 use Rattle.exo_tree.specs.PlainPlace.{step_taken}
 use Rattle.exo_tree.specs.PlainStatement.{statement}
-use Rattle.unit_check.specs.Preorder.{capped, place_in}
+use Rattle.unit_check.specs.Preorder.{place_in}
 use Rattle.unit_check.proofs.Placed.{stops, last, next_none, next_some}
 use Rattle.unit_check.proofs.line.+place_in.Goals as goal
 

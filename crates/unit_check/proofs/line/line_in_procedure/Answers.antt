@@ -1,10 +1,11 @@
 use Rattle.std.proofs.Common.{◌<◌, ℕ, List, length, ap, ◌∙◌, arith}
 use Rattle.std.specs.Prelude.{slice_index_or}
 use Rattle.std.proofs.lemmas.List.{length-map}
+use Rattle.exo_tree.specs.Nodes.{capped}
 use Rattle.exo_tree.specs.Places.{Path}
 use Rattle.exo_tree.specs.PlainPlace.{step_taken}
 use Rattle.exo_tree.specs.PlainProcedure.{procedure}
-use Rattle.unit_check.specs.Preorder.{capped, number_of}
+use Rattle.unit_check.specs.Preorder.{number_of}
 use Rattle.unit_check.proofs.Placed.{line_where}
 use Rattle.unit_check.proofs.line.line_in_procedure.Goals as goal
 

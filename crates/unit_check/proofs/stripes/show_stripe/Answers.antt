@@ -26,7 +26,7 @@ loop-preserved g c =
     c.take.new.self) more
     (one_more u p c.args.skip (512 * c.loop.counter) 512 c.loop.stripe c.next_of_stripe.new.stripe
     c.loop.cache c.take.new.cache c.loop.showing c.take.new.self
-    (map plain_obligation c.in_ok-part.part.items) c.loop.invariant c.in_ok-part.ensures
+    (map plain_obligation c.in_ok-part.part.items) c.loop.invariant c.in_ok-part.ensures.part
     (shown_as c.in_ok-part.part.items c.deref.result.now c.loop.cache c.take.new.cache
     c.loop.showing c.take.new.self c.deref.ensures.value c.take.ensures))
 

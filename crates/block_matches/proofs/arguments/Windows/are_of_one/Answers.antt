@@ -1,5 +1,5 @@
 use Rattle.std.proofs.Common.{map, arith}
-use Rattle.block_pairs.specs.Held.{ids_in}
+use Rattle.block_matches.specs.Pairs.Held.{ids_in}
 use Rattle.match_laws.specs.Windows.{all_of_name}
 use Rattle.block_matches.specs.PlainMoving.{plain_moving}
 use Rattle.block_matches.specs.PlainUse.{plain_use}

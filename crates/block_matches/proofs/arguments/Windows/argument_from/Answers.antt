@@ -1,8 +1,8 @@
 use Rattle.std.proofs.Common.{map, arith}
 use Rattle.exo_tree.specs.PlainArgument.{argument}
 use Rattle.exo_tree.specs.PlainControl.{control}
-use Rattle.block_pairs.specs.Held.{ids_in}
-use Rattle.block_pairs.specs.PlainBuffer.{plain_buffer}
+use Rattle.block_matches.specs.Pairs.Held.{ids_in}
+use Rattle.block_matches.specs.Pairs.PlainBuffer.{plain_buffer}
 use Rattle.block_matches.specs.PlainMoving.{plain_moving}
 use Rattle.block_matches.specs.PlainSpot.{plain_spot}
 use Rattle.block_matches.proofs.Named.{window_given}

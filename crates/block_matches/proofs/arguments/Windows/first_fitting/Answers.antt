@@ -2,8 +2,8 @@ use Rattle.std.proofs.Common.{◌≡◌, Bool, Option, map, subst, option_map, I
 use Rattle.exo_tree.specs.Tree.{Argument}
 use Rattle.exo_tree.specs.PlainArgument.{argument}
 use Rattle.exo_tree.specs.PlainControl.{control}
-use Rattle.block_pairs.specs.Held.{ids_in}
-use Rattle.block_pairs.specs.PlainBuffer.{plain_buffer}
+use Rattle.block_matches.specs.Pairs.Held.{ids_in}
+use Rattle.block_matches.specs.Pairs.PlainBuffer.{plain_buffer}
 use Rattle.block_matches.specs.PlainMoving.{plain_moving}
 use Rattle.block_matches.specs.PlainUse.{plain_use}
 use Rattle.tree_uses.specs.Outcomes.{ComesIf}

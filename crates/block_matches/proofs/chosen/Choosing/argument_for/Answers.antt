@@ -7,7 +7,7 @@ use Rattle.exo_tree.specs.PlainParam.{parameter_kind}
 use Rattle.exo_tree.specs.PlainProcedure.{procedure}
 use Rattle.match_laws.specs.Matched as plain
 use Rattle.match_laws.specs.Widths.{argument_is_short}
-use Rattle.block_pairs.specs.Held.{names_in}
+use Rattle.block_matches.specs.Pairs.Held.{names_in}
 use Rattle.tree_uses.specs.Outcomes.{ComesIf}
 use Rattle.block_matches.proofs.chosen.Choosing.argument_for.Goals as goal
 

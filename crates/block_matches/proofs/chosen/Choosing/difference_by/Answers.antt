@@ -2,7 +2,7 @@ use Rattle.exo_tree.specs.Tree.{block}
 use Rattle.exo_tree.specs.PlainProcedure.{procedure}
 use Rattle.match_laws.specs.Matched.{first_difference}
 use Rattle.match_laws.specs.Widths.{walk_is_short}
-use Rattle.block_pairs.specs.Held.{names_in}
+use Rattle.block_matches.specs.Pairs.Held.{names_in}
 use Rattle.block_matches.proofs.Choices.{same_value, same_fits}
 use Rattle.block_matches.proofs.MatchedBy.{at_arguments}
 use Rattle.block_matches.proofs.chosen.Choosing.difference_by.Goals as goal

@@ -4,7 +4,7 @@ use Rattle.exo_tree.specs.PlainProcedure.{procedure}
 use Rattle.affine_forms.specs.Outcomes.{IsWide}
 use Rattle.match_laws.specs.Matched.{first_difference}
 use Rattle.match_laws.specs.Widths.{walk_is_short}
-use Rattle.block_pairs.specs.Held.{names_in}
+use Rattle.block_matches.specs.Pairs.Held.{names_in}
 use Rattle.block_matches.specs.PlainMatched.{plain_matched}
 use Rattle.block_matches.proofs.Choices.{same_value, same_fits, left_over}
 use Rattle.block_matches.proofs.MatchedBy.{at_walk, differs, short_differs, goes_on, short_on}

@@ -3,7 +3,7 @@ use Rattle.exo_tree.specs.Tree.{block}
 use Rattle.exo_tree.specs.PlainProcedure.{procedure}
 use Rattle.std.specs.Prelude.{Ok, Err}
 use Rattle.match_laws.specs.Matched.{with_strides}
-use Rattle.block_pairs.specs.Held.{names_in}
+use Rattle.block_matches.specs.Pairs.Held.{names_in}
 use Rattle.block_matches.specs.PlainMatched.{plain_matched}
 use Rattle.block_matches.proofs.Choices.{same_value, same_fits, left_over, wide_both}
 use Rattle.block_matches.proofs.MatchedBy.{none_given, short_given}

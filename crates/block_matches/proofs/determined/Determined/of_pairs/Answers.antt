@@ -4,7 +4,7 @@ use Rattle.exo_tree.specs.Tree.{Argument}
 use Rattle.exo_tree.specs.PlainProcedure.{procedure}
 use Rattle.inplace_laws.specs.Inline.{is_param}
 use Rattle.match_laws.specs.Matched.{argument_if, argument_in, known_by}
-use Rattle.block_pairs.specs.PlainPair.{plain_pair}
+use Rattle.block_matches.specs.Pairs.PlainPair.{plain_pair}
 use Rattle.block_matches.specs.Held.{determined_in}
 use Rattle.block_matches.specs.Noted.{earlier}
 use Rattle.block_matches.proofs.Tables.{next_item, one_noted, all_noted}

@@ -3,7 +3,7 @@ use Rattle.std.proofs.Common.{◌≡◌, drop, map}
 use Rattle.exo_tree.specs.PlainProcedure.{procedure}
 use Rattle.inplace_laws.specs.Inline.{is_param}
 use Rattle.match_laws.specs.Matched.{argument_in}
-use Rattle.block_pairs.specs.PlainPair.{plain_pair}
+use Rattle.block_matches.specs.Pairs.PlainPair.{plain_pair}
 use Rattle.block_matches.specs.Held.{determined_in}
 use Rattle.block_matches.specs.Noted.{earlier}
 use Rattle.block_matches.proofs.determined.Determined.of_pairs.Given as goal

@@ -5,7 +5,7 @@ use Rattle.exo_tree.specs.PlainProcedure.{procedure}
 use Rattle.meaning_laws.specs.Scoped.{has_binder, is_param}
 use Rattle.match_laws.specs.Names.{Names}
 use Rattle.match_laws.specs.Pairs.{paired}
-use Rattle.block_pairs.specs.Held.{names_in}
+use Rattle.block_matches.specs.Pairs.Held.{names_in}
 use Rattle.block_matches.proofs.matched.Sides.matched.Goals as goal
 
 pub matched_in-requires-clause-pairs : goal.matched_in-requires-clause-pairs

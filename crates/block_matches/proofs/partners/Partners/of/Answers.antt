@@ -1,7 +1,7 @@
 use Rattle.std.proofs.Common.{◌<◌, ◌≤◌, ◌+◌, ℕ, Option, map, length, drop, ap, sym, ◌∙◌, arith}
 use Rattle.std.proofs.lemmas.List.{drop_all}
 use Rattle.match_laws.specs.Matched.{partner, partner_if}
-use Rattle.block_pairs.specs.PlainPair.{plain_pair}
+use Rattle.block_matches.specs.Pairs.PlainPair.{plain_pair}
 use Rattle.block_matches.specs.Held.{partners_in}
 use Rattle.block_matches.specs.Noted.{earlier}
 use Rattle.block_matches.proofs.Tables.{next_item, one_noted, all_noted}

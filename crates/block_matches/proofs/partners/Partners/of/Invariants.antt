@@ -1,7 +1,7 @@
 -- The partners so far, and those that the other pairs give.
 use Rattle.std.proofs.Common.{◌≡◌, drop, map}
 use Rattle.match_laws.specs.Matched.{partner}
-use Rattle.block_pairs.specs.PlainPair.{plain_pair}
+use Rattle.block_matches.specs.Pairs.PlainPair.{plain_pair}
 use Rattle.block_matches.specs.Held.{partners_in}
 use Rattle.block_matches.specs.Noted.{earlier}
 use Rattle.block_matches.proofs.partners.Partners.of.Given as goal

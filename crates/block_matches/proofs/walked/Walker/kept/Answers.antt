@@ -1,8 +1,8 @@
 use Rattle.std.proofs.Common.{◌<◌, length, map, sym, ◌∙◌, arith}
 use Rattle.exo_tree.specs.PlainProcedure.{procedure}
 use Rattle.inplace_laws.specs.Inline.{is_param}
-use Rattle.block_pairs.specs.Held.{ids_in}
-use Rattle.block_pairs.specs.PlainPair.{plain_pair}
+use Rattle.block_matches.specs.Pairs.Held.{ids_in}
+use Rattle.block_matches.specs.Pairs.PlainPair.{plain_pair}
 use Rattle.block_matches.specs.Held.{partners_in}
 use Rattle.block_matches.specs.Kept.{kept}
 use Rattle.block_matches.proofs.Cuts.{kept_step}

@@ -34,8 +34,8 @@ obligations_of_claims-requires-clause-owable c =
     ∙ owable_range l c.requires.listed c.places_have_all_claims.ensures
     c.claims_may_be_owed.ensures c.args.skip c.args.count
 
-pub returns : goal.returns
-returns c =
+pub returns-clause-range : goal.returns-clause-range
+returns-clause-range c =
     let l = c.args.self.now in
     let u = unit_of l in
     let p = proc_of l in

@@ -2,7 +2,7 @@ use Rattle.std.proofs.Common.{◌++◌, [], ◌∷◌, map, sym, ap, ◌∙◌, 
 use Rattle.std.proofs.lemmas.List.{map-append}
 use Rattle.exo_tree.specs.PlainBinder.{cell_type}
 use Rattle.c_tree.specs.Plain.{plain_struct}
-use Rattle.c_lowered.specs.LoweredUnit.{is_struct}
+use Rattle.c_lowering.specs.Made.LoweredUnit.{is_struct}
 use Rattle.c_printer.specs.Found.{Found}
 use Rattle.c_printer.proofs.Finding.{put_behind, put_before}
 use Rattle.c_printer.proofs.found.FoundStructs.insert.Goals as goal

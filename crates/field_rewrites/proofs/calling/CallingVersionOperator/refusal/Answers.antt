@@ -1,6 +1,6 @@
 use Rattle.std.proofs.Common.{◌≡◌, List, ℕ, map, ap, ◌∙◌, subst}
 use Rattle.config_live.specs.Origins.{number}
-use Rattle.step_needs.specs.Outcomes.{Refuses}
+use Rattle.step_driver.specs.Needs.Outcomes.{Refuses}
 use Rattle.step_driver.specs.PlainTarget.{target}
 use Rattle.field_rewrites.specs.Beside.{first_at, cause_of_any}
 use Rattle.field_rewrites.specs.PlainCall.{fields_called}

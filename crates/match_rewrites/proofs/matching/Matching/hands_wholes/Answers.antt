@@ -1,6 +1,6 @@
 use Rattle.std.proofs.Common.{◌∙◌, ap}
 use Rattle.exo_tree.specs.PlainProcedure.{procedure}
-use Rattle.unify_laws.specs.Replace.Rule as rule
+use Rattle.call_laws.specs.Replace.Rule as rule
 use Rattle.match_rewrites.proofs.matching.Matching.hands_wholes.Goals as goal
 
 pub returns : goal.returns

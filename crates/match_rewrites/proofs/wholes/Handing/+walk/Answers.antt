@@ -1,5 +1,5 @@
 use Rattle.std.proofs.Common.{arith}
-use Rattle.unify_laws.specs.Replace.Rule.{given_in}
+use Rattle.call_laws.specs.Replace.Rule.{given_in}
 use Rattle.match_rewrites.proofs.Together.{none_hands}
 use Rattle.match_rewrites.proofs.wholes.Handing.+walk.Goals as goal
 

@@ -1,4 +1,4 @@
-use Rattle.unify_laws.specs.Replace.Rule.{given_in}
+use Rattle.call_laws.specs.Replace.Rule.{given_in}
 use Rattle.match_rewrites.proofs.Together.{Says}
 use Rattle.match_rewrites.proofs.wholes.Handing.+walk.Given as goal
 

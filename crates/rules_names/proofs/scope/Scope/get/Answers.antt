@@ -1,7 +1,7 @@
 use Rattle.std.proofs.Common.{sym, ap, ◌∙◌, option_map}
 use Rattle.rules_names.specs.Names.{named_in}
 use Rattle.rules_names.specs.Tables.{named}
-use Rattle.rules_names.proofs.Scopes.{found_in}
+use Rattle.rules_names.proofs.InScope.{found_in}
 use Rattle.rules_names.proofs.scope.Scope.get.Goals as goal
 
 pub returns : goal.returns

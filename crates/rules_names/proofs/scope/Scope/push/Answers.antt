@@ -3,7 +3,7 @@ use Rattle.indexmap.proofs.CallerLemmas.{insert_entry-new}
 use Rattle.std.specs.Str.{bytes_eq}
 use Rattle.rules_names.specs.Names.{named_in}
 use Rattle.rules_names.specs.Tables.{named}
-use Rattle.rules_names.proofs.Scopes.{absent, seen, seen_push}
+use Rattle.rules_names.proofs.InScope.{absent, seen, seen_push}
 use Rattle.rules_names.proofs.scope.Scope.push.Goals as goal
 
 pub returns-clause-pushed : goal.returns-clause-pushed

@@ -1,5 +1,5 @@
 use Rattle.std.proofs.Common.{ap, ◌∙◌, ◌-◌, drop, length}
-use Rattle.rules_names.proofs.Scopes.{seen, seen_take}
+use Rattle.rules_names.proofs.InScope.{seen, seen_take}
 use Rattle.rules_names.proofs.scope.Scope.truncate.Goals as goal
 
 pub returns : goal.returns

@@ -3,7 +3,7 @@ use Rattle.std.specs.Prelude.{IfSome}
 use Rattle.std.proofs.lemmas.Option.{same_Some}
 use Rattle.exo_tree.specs.Tree.{Procedure}
 use Rattle.exo_tree.specs.PlainProcedure.{procedure}
-use Rattle.owed_laws.specs.Stores.{StoreChanged}
+use Rattle.schedule_laws.specs.Owed.Stores.{StoreChanged}
 use Rattle.schedule_run.proofs.running.Running.store_between.Goals as goal
 
 pub returns : goal.returns

@@ -1,7 +1,7 @@
 use Rattle.exo_tree.specs.PlainBinder.{cell_type}
 use Rattle.buffer_laws.specs.Buffers.{Buffer}
 use Rattle.step_driver.specs.PlainWriting.{writing}
-use Rattle.stage_tests.specs.PlainStaging.{plain_staging}
+use Rattle.stage_rewrites.specs.Tested.PlainStaging.{plain_staging}
 use Rattle.stage_rewrites.specs.Nests.{loaded}
 use Rattle.stage_rewrites.proofs.Staged.{headed_out}
 use Rattle.stage_rewrites.proofs.drafted.Draft.head.Goals as goal

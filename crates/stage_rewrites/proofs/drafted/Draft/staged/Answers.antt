@@ -1,7 +1,7 @@
 use Rattle.exo_tree.specs.Tree.{block}
 use Rattle.exo_tree.specs.PlainBinder.{cell_type}
 use Rattle.step_driver.specs.PlainWriting.{writing}
-use Rattle.stage_tests.specs.PlainStaging.{plain_staging}
+use Rattle.stage_rewrites.specs.Tested.PlainStaging.{plain_staging}
 use Rattle.stage_rewrites.proofs.Staged.{staged_out}
 use Rattle.stage_rewrites.proofs.drafted.Draft.staged.Goals as goal
 

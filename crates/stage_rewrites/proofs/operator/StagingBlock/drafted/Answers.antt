@@ -3,7 +3,7 @@ use Rattle.exo_tree.specs.PlainBinder.{cell_type}
 use Rattle.step_driver.specs.PlainTarget.{target, plain_piece}
 use Rattle.step_driver.specs.PlainWriting.{writing}
 use Rattle.step_driver.specs.Spots.{spot_at}
-use Rattle.stage_tests.specs.PlainStaging.{plain_staging}
+use Rattle.stage_rewrites.specs.Tested.PlainStaging.{plain_staging}
 use Rattle.stage_rewrites.proofs.Drafts.{draft_got, draft_refused}
 use Rattle.stage_rewrites.proofs.operator.StagingBlock.drafted.Goals as goal
 

@@ -1,6 +1,0 @@
-use Rattle.std.proofs.Common.{◌≡◌, map, take}
-use Rattle.affine_forms.specs.System.{plain_row}
-use Rattle.affine_rows.proofs.dense.dense_rows.Given as goal
-
-abbrev pub invariant-loop-row : goal.invariant-loop-row
-invariant-loop-row l = l.dense.items ≡ map (plain_row l.n) (take l.row-index l.rows)

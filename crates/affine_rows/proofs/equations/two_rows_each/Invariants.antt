@@ -1,7 +1,0 @@
-use Rattle.std.proofs.Common.{◌≡◌, ◌++◌, ◌∷◌, []}
-use Rattle.std.specs.List.{flat_map}
-use Rattle.affine_rows.specs.Rows.{negated}
-use Rattle.affine_rows.proofs.equations.two_rows_each.Given as goal
-
-abbrev pub invariant-loop-e : goal.invariant-loop-e
-invariant-loop-e l = l.all.items ≡ l.fn.rows.items ++ flat_map (λ e. e ∷ negated e ∷ []) l.yielded

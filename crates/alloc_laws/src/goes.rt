@@ -1,0 +1,3 @@
+//! Staged blocks in the place of blocks that leave names of their own.
+
+pub mod laws;

@@ -1,4 +1,0 @@
-//! The C of a block follows its run: laws alone.
-#![tactic(auto)]
-
-pub mod laws;

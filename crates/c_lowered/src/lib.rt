@@ -1,4 +1,0 @@
-//! The C of a program: what it is.
-#![tactic(auto)]
-
-pub mod laws;

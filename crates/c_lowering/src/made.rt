@@ -1,0 +1,3 @@
+//! The C of a program: what it is.
+
+pub mod laws;

@@ -1,5 +1,0 @@
-//! The C machine: what C does, as far as procedures are printed in it, and what is read off it.
-#![tactic(auto)]
-
-pub mod behaviour;
-pub mod laws;

@@ -1,8 +1,0 @@
--- What is made, and then the names of what is left, are the names of all.
-use Rattle.std.proofs.Common.{◌≡◌, ◌++◌, drop, map}
-use Rattle.exo_tree.specs.PlainBinder.{binding}
-use Rattle.c_names.specs.Binders.{names_of}
-use Rattle.c_names.proofs.binders.names_of.Given as goal
-
-abbrev pub invariant-loop-b : goal.invariant-loop-b
-invariant-loop-b l = l.names.items ++ names_of (map binding (drop l.b-index l.binders)) ≡ names_of (map binding l.binders)

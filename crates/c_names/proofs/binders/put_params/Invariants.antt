@@ -1,9 +1,0 @@
--- What is put, and what is left, make the whole.
-use Rattle.std.proofs.Common.{◌≡◌, ◌++◌, drop, map}
-use Rattle.exo_tree.specs.PlainBinder.{binding}
-use Rattle.exo_tree.specs.PlainParam.{parameter}
-use Rattle.c_names.specs.Binders.{param_binders}
-use Rattle.c_names.proofs.binders.put_params.Given as goal
-
-abbrev pub invariant-loop-p : goal.invariant-loop-p
-invariant-loop-p l = map binding l.out.items ++ param_binders (map parameter (drop l.p-index l.params)) ≡ map binding l.initial.out.items ++ param_binders (map parameter l.params)

@@ -1,0 +1,15 @@
+pub mod Magnitude
+pub mod Simulation
+pub mod Good
+pub mod Calls
+pub mod Holes
+pub mod Bodies
+pub mod Grounds
+pub mod Templates
+pub mod SameInput
+pub mod Units
+pub mod Functions
+pub mod Instance
+pub mod CallOfCall
+pub mod Overlapping
+pub mod Machine

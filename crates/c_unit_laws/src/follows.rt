@@ -1,0 +1,4 @@
+//! The C of a block follows its run: laws alone.
+
+pub mod laws;
+mod machine;

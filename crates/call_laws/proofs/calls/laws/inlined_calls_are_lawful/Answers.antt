@@ -1,0 +1,5 @@
+use Rattle.call_laws.proofs.OfCalls.Inline.{inline_is_lawful}
+use Rattle.call_laws.proofs.calls.laws.inlined_calls_are_lawful.Goals as goal
+
+pub returns : goal.returns
+returns c = inline_is_lawful

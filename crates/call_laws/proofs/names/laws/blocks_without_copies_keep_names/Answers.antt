@@ -1,5 +1,0 @@
-use Rattle.call_laws.proofs.OfNames.Copies.{no_copies}
-use Rattle.call_laws.proofs.names.laws.blocks_without_copies_keep_names.Goals as goal
-
-pub returns : goal.returns
-returns c = no_copies

@@ -1,5 +1,0 @@
-use Rattle.call_laws.proofs.OfNames.Copies.{bodies_without_copies}
-use Rattle.call_laws.proofs.names.laws.bodies_without_copies_stay.Goals as goal
-
-pub returns : goal.returns
-returns c = bodies_without_copies

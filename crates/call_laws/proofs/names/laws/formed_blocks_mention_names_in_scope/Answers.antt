@@ -1,5 +1,0 @@
-use Rattle.call_laws.proofs.OfNames.Mentions.{formed_mentions}
-use Rattle.call_laws.proofs.names.laws.formed_blocks_mention_names_in_scope.Goals as goal
-
-pub returns : goal.returns
-returns c = formed_mentions

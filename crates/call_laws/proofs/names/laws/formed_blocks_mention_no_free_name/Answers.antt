@@ -1,5 +1,0 @@
-use Rattle.call_laws.proofs.OfNames.Mentions.{free_unmentioned}
-use Rattle.call_laws.proofs.names.laws.formed_blocks_mention_no_free_name.Goals as goal
-
-pub returns : goal.returns
-returns c = free_unmentioned

@@ -1,5 +1,0 @@
-use Rattle.call_laws.proofs.OfNames.Renamings.{injections_extend}
-use Rattle.call_laws.proofs.names.laws.injections_extend.Goals as goal
-
-pub returns : goal.returns
-returns c = injections_extend

@@ -1,5 +1,0 @@
-use Rattle.call_laws.proofs.OfNames.Renamings.{lists_extend}
-use Rattle.call_laws.proofs.names.laws.lists_of_ids_extend.Goals as goal
-
-pub returns : goal.returns
-returns c = lists_extend

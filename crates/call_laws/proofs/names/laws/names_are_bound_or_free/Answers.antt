@@ -1,5 +1,0 @@
-use Rattle.call_laws.proofs.OfNames.Bound.{bound_or_free}
-use Rattle.call_laws.proofs.names.laws.names_are_bound_or_free.Goals as goal
-
-pub returns : goal.returns
-returns c = bound_or_free

@@ -1,0 +1,9 @@
+pub mod Callees
+pub mod Fresh
+pub mod Puts
+pub mod Here
+pub mod InlineWindow
+pub mod Inlinable
+pub mod Takes
+pub mod Inline
+pub mod Names

@@ -1,5 +1,0 @@
-use Rattle.effect_bounds.proofs.LowAccesses.{arguments_low}
-use Rattle.effect_bounds.proofs.laws.arguments_are_low.Goals as goal
-
-pub returns : goal.returns
-returns c = arguments_low c.well_formed_procedures_are_low.ensures c.passed_is_low.ensures

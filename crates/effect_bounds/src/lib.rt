@@ -1,4 +1,0 @@
-//! How large the variables in a procedure's contexts and accesses are, and how long its accesses.
-#![tactic(auto)]
-
-pub mod laws;

@@ -1,0 +1,3 @@
+//! How large the variables in a procedure's contexts and accesses are, and how long its accesses.
+
+pub mod laws;

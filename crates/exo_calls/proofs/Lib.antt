@@ -1,4 +1,0 @@
-pub mod Sets
-pub mod Reach
-pub mod Entries
-mod Examples

@@ -1,6 +1,0 @@
-use Rattle.exo_tree.specs.PlainStatement.{statement}
-use Rattle.exo_calls.proofs.Sets.{block_marked}
-use Rattle.exo_calls.proofs.closure.+called.Goals as goal
-
-pub mark_called-loop-k-preserved : goal.mark_called-loop-k-preserved
-mark_called-loop-k-preserved t c = λ new h. c.loop-k.invariant new (block_marked c.args.b.now _ c.loop-k.k (statement c.statement.result.now) c.loop-k.marks c.mark_called_by.new.marks new c.statement.ensures.value c.mark_called_by.ensures h)

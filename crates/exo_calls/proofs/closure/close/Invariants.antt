@@ -1,9 +1,0 @@
--- What is reached through the last procedures.
-use Rattle.std.proofs.Common.{◌-◌, drop, length, map}
-use Rattle.exo_tree.specs.PlainProcedure.{procedure}
-use Rattle.exo_calls.specs.Passed.{passed}
-use Rattle.exo_calls.proofs.Sets.{ReachedFrom}
-use Rattle.exo_calls.proofs.closure.close.Given as goal
-
-abbrev pub invariant-loop-k : goal.invariant-loop-k
-invariant-loop-k l = ReachedFrom (passed l.through) (length l.procs - l.k) (map procedure (drop (length l.procs - l.k) l.procs)) l.initial.marks l.marks

@@ -1,9 +1,0 @@
-//! Who calls whom: the procedures that a set of them calls, directly or through others.
-#![tactic(auto)]
-
-mod closure;
-pub mod laws;
-mod marks;
-
-pub use closure::{Through, close};
-pub use marks::Marks;

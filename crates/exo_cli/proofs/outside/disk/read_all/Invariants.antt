@@ -1,0 +1,5 @@
+use Rattle.std.proofs.Common.{◌≤◌, vec_len}
+use Rattle.exo_cli.proofs.outside.disk.read_all.Given as goal
+
+abbrev pub invariant-loop : goal.invariant-loop
+invariant-loop g l = vec_len l.into ≤ l.limit

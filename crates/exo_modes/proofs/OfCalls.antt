@@ -1,0 +1,4 @@
+pub mod Sets
+pub mod Reach
+pub mod Entries
+pub mod Examples

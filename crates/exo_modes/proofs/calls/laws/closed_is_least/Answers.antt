@@ -1,0 +1,5 @@
+use Rattle.exo_modes.proofs.OfCalls.Reach.{closed_is_least}
+use Rattle.exo_modes.proofs.calls.laws.closed_is_least.Goals as goal
+
+pub returns : goal.returns
+returns c = closed_is_least

@@ -1,8 +1,0 @@
-//! Which strides of its parameters a procedure looks at: directly, through a view, or through a call.
-#![tactic(auto)]
-
-mod expressions;
-mod table;
-mod walk;
-
-pub use table::{StrideTable, is_stride_used, stride_seen};

@@ -1,6 +1,0 @@
-use Rattle.std.proofs.Common.{◌≡◌, take, map}
-use Rattle.exo_tree.specs.PlainPlace.{step_taken}
-use Rattle.exo_tree.proofs.place.Path.duplicate.Given as goal
-
-abbrev pub invariant-loop-step : goal.invariant-loop-step
-invariant-loop-step l = l.copied ≡ map step_taken (take l.step-index l.step-items)

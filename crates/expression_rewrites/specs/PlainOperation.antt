@@ -1,8 +1,0 @@
--- The plain form of an operation.
-use Rattle.proc_laws.specs.Expression.Exchange as plain
-use Rattle.expression_rewrites.specs.declared.exchange.Operation.{Operation}
-use Rattle.expression_rewrites.specs.declared.exchange.Operation.TheVariants.{Sum, Product}
-
-abbrev pub plain_operation : Operation → plain.Operation
-plain_operation Sum = plain.Sum
-plain_operation Product = plain.Product

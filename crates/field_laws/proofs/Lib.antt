@@ -1,6 +1,0 @@
-pub mod Exact
-pub mod Stand
-pub mod Rules
-pub mod Version
-pub mod Points
-mod Examples

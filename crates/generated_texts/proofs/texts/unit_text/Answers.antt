@@ -1,8 +1,0 @@
-use Rattle.std.proofs.Common.{string_bytes, arith}
-use Rattle.generated_texts.proofs.Sizes.{short_unit}
-use Rattle.generated_texts.proofs.texts.unit_text.Goals as goal
-
-pub returns-clause-short : goal.returns-clause-short
-returns-clause-short c =
-    short_unit (string_bytes c.loop-m.text) c.args.n c.loop-m.m c.loop-m.invariant
-    (omega (arith, c.procedures-m-end.ensures.few))

@@ -1,7 +1,0 @@
--- What is left decides.
-use Rattle.std.proofs.Common.{◌≡◌, drop}
-use Rattle.made_trees.specs.Names.{is_in}
-use Rattle.made_trees.proofs.name.is_in.Given as goal
-
-abbrev pub invariant-loop-name : goal.invariant-loop-name
-invariant-loop-name l = is_in (drop l.name-index l.names) l.x ≡ is_in l.names l.x

@@ -1,0 +1,5 @@
+pub mod PlainFork
+pub mod PlainNeighbours
+pub mod PlainLifting
+pub mod Fits
+pub mod Expressions

@@ -1,0 +1,20 @@
+//! Rewrites of statements, and of expressions, names and passes.
+#![tactic(auto)]
+
+mod alike;
+mod emptying;
+mod exchanging;
+pub mod expressions;
+mod forks;
+mod keeping;
+mod liftable;
+mod lifting;
+mod neighbours;
+mod removing;
+mod rounds;
+
+pub use emptying::Emptying;
+pub use exchanging::Exchanging;
+pub use keeping::Keeping;
+pub use lifting::Lifting;
+pub use removing::Removing;

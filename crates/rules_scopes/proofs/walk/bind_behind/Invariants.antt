@@ -1,9 +1,0 @@
--- The statements that are left make the whole.
-use Rattle.std.proofs.Common.{◌≡◌, ◌-◌, true, drop}
-use Rattle.exo_tree.specs.Tree.{block}
-use Rattle.rules_scopes.specs.PlaceScope.{scope_behind}
-use Rattle.rules_scopes.specs.NewNames.{binds_new}
-use Rattle.rules_scopes.proofs.walk.bind_behind.Given as goal
-
-abbrev pub invariant-loop-k : goal.invariant-loop-k
-invariant-loop-k l = (scope_behind (l.count - l.k) l.scope (block (drop l.k l.b)) ≡ scope_behind l.count l.initial.scope (block l.b)) × (binds_new l.scope (block (drop l.k l.b)) ≡ true)

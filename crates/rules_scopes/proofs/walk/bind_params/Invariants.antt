@@ -1,9 +1,0 @@
--- The parameters that are left make the whole.
-use Rattle.std.proofs.Common.{◌≡◌, true, drop, map}
-use Rattle.exo_tree.specs.PlainParam.{parameter}
-use Rattle.rules_scopes.specs.PlaceScope.{naming_params}
-use Rattle.rules_scopes.specs.NewNames.{params_are_new}
-use Rattle.rules_scopes.proofs.walk.bind_params.Given as goal
-
-abbrev pub invariant-loop-p : goal.invariant-loop-p
-invariant-loop-p l = (naming_params (map parameter (drop l.p-index l.p-items)) l.scope ≡ naming_params l.params l.initial.scope) × (params_are_new l.scope (map parameter (drop l.p-index l.p-items)) ≡ true)

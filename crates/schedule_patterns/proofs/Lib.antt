@@ -1,8 +1,0 @@
-mod Meanings
-mod Parts
-mod Statements
-mod Expressions
-mod Faults
-mod Names
-mod Unique
-mod Instance

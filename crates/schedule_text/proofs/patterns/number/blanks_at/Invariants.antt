@@ -1,0 +1,14 @@
+-- what is left of the run begins at the count
+use Rattle.std.proofs.Common.{◌≡◌, ◌≤◌, ◌+◌, ◌-◌, drop, length}
+use Rattle.std.specs.List.{prefix_len}
+use Rattle.schedule_text.specs.Patterns.Numbers.{is_blank}
+use Rattle.schedule_text.proofs.patterns.number.blanks_at.Given as goal
+
+abbrev pub invariant-loop-count : goal.invariant-loop-count
+invariant-loop-count l = record {
+  within : l.count ≤ length l.bytes;
+  run : prefix_len is_blank l.bytes ≡ l.count + prefix_len is_blank (drop l.count l.bytes);
+}
+
+abbrev pub decreases-loop-count : goal.decreases-loop-count
+decreases-loop-count l = length l.bytes - l.count

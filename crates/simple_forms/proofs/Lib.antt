@@ -1,4 +1,0 @@
-pub mod Operands
-pub mod Signs
-pub mod Changed
-mod Examples

@@ -1,5 +1,0 @@
-use Rattle.std.proofs.Common.{length}
-use Rattle.stage_needs.proofs.sides.+push_extents.Given as goal
-
-abbrev pub decreases-push_extents : goal.decreases-push_extents
-decreases-push_extents l = length l.window.now

@@ -1,4 +1,0 @@
-pub mod PlainFork
-pub mod PlainNeighbours
-pub mod PlainLifting
-pub mod Fits

@@ -1,6 +1,0 @@
--- The rest falls.
-use Rattle.std.proofs.Common.{length}
-use Rattle.tree_rules.proofs.argument.+in_arguments.Given as goal
-
-abbrev pub decreases-in_arguments : goal.decreases-in_arguments
-decreases-in_arguments l = length l.params.now

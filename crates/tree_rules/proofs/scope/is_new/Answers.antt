@@ -1,6 +1,0 @@
-use Rattle.exo_tree.specs.PlainBinder.{binding}
-use Rattle.tree_rules.proofs.Scopes.{clash_first}
-use Rattle.tree_rules.proofs.scope.is_new.Goals as goal
-
-pub loop-entry-init : goal.loop-entry-init
-loop-entry-init c = clash_first (binding c.args.x.now) c.args.entries.now

@@ -1,6 +1,0 @@
--- The rest falls.
-use Rattle.std.proofs.Common.{length}
-use Rattle.tree_rules.proofs.size.+deepest.Given as goal
-
-abbrev pub decreases-deepest : goal.decreases-deepest
-decreases-deepest l = length l.es.now

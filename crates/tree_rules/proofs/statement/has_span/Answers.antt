@@ -1,6 +1,0 @@
-use Rattle.std.proofs.Common.{nat_lt, ap, ◌∙◌}
-use Rattle.exo_meaning.specs.Units as units
-use Rattle.tree_rules.proofs.statement.has_span.Goals as goal
-
-pub returns : goal.returns
-returns c = ap (nat_lt 0) (c.spans.ensures ∙ ap units.spans c.as_slice.ensures)

@@ -1,6 +1,0 @@
-use Rattle.std.proofs.Common.{nat_lt, ap, ◌∙◌}
-use Rattle.tree_rules.proofs.Counts.{filled}
-use Rattle.tree_rules.proofs.statement.is_filled.Goals as goal
-
-pub returns : goal.returns
-returns c = ap (nat_lt 0) c.len.ensures ∙ filled c.args.b.now

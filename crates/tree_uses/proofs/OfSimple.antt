@@ -1,0 +1,4 @@
+pub mod Operands
+pub mod Signs
+pub mod Changed
+pub mod Examples

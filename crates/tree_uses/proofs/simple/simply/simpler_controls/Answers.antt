@@ -1,0 +1,14 @@
+use Rattle.std.specs.List.{list_all}
+use Rattle.exo_tree.specs.PlainControl.{control}
+use Rattle.match_laws.specs.Widths.{is_short}
+use Rattle.tree_uses.proofs.Wide.{told_wide, item_wide}
+use Rattle.tree_uses.proofs.simple.simply.simpler_controls.Goals as goal
+
+pub returns-in_err-simpler-clause-fits : goal.returns-in_err-simpler-clause-fits
+returns-in_err-simpler-clause-fits g c =
+    let fits = is_short (g.R.Reader.reading c.args.reader.now) in
+    told_wide c.from_residual.result c.in_err-simpler.field-0.0 (fits (control c.item-item.result))
+    (list_all fits c.args.es.now) c.from_residual.ensures.1 c.in_err-simpler.ensures.fits
+    (item_wide fits (λ x. control x) c.as_slice-item-items.result.now c.args.es.now
+    c.loop-item.item-index c.item-item.result c.as_slice-item-items.ensures c.item-item.is
+    c.loop-item-test.true)

@@ -1,5 +1,0 @@
-use Rattle.unify_laws.proofs.Simplest.{simplifies_all}
-use Rattle.unify_laws.proofs.laws.all_is_simplified.Goals as goal
-
-pub returns : goal.returns
-returns c = simplifies_all

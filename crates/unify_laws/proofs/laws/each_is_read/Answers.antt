@@ -1,5 +1,0 @@
-use Rattle.unify_laws.proofs.Each.{each_is_read}
-use Rattle.unify_laws.proofs.laws.each_is_read.Goals as goal
-
-pub returns : goal.returns
-returns c = each_is_read

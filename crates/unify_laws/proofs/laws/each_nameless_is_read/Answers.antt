@@ -1,5 +1,0 @@
-use Rattle.unify_laws.proofs.Nameless.{of_each_nameless}
-use Rattle.unify_laws.proofs.laws.each_nameless_is_read.Goals as goal
-
-pub returns : goal.returns
-returns c = of_each_nameless

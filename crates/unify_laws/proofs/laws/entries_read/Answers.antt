@@ -1,5 +1,0 @@
-use Rattle.unify_laws.proofs.Entries.{entry_reads}
-use Rattle.unify_laws.proofs.laws.entries_read.Goals as goal
-
-pub returns : goal.returns
-returns c = entry_reads

@@ -1,5 +1,0 @@
-use Rattle.unify_laws.proofs.Places.{places_stand}
-use Rattle.unify_laws.proofs.laws.places_stand.Goals as goal
-
-pub returns : goal.returns
-returns c = places_stand

@@ -1,5 +1,0 @@
-use Rattle.unify_laws.proofs.Simplify.{simplify_is_lawful}
-use Rattle.unify_laws.proofs.laws.simplifications_are_lawful.Goals as goal
-
-pub returns : goal.returns
-returns c = simplify_is_lawful

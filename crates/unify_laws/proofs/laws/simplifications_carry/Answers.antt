@@ -1,5 +1,0 @@
-use Rattle.unify_laws.proofs.Simplify.{simplify_is_carrying}
-use Rattle.unify_laws.proofs.laws.simplifications_carry.Goals as goal
-
-pub returns : goal.returns
-returns c = simplify_is_carrying

@@ -1,5 +1,0 @@
-use Rattle.unify_laws.proofs.OfReplace.PieceIds.{piece_ids}
-use Rattle.unify_laws.proofs.replace.laws.blocks_have_ids_of_procedures.Goals as goal
-
-pub returns : goal.returns
-returns c = piece_ids

@@ -1,5 +1,0 @@
-use Rattle.unify_laws.proofs.OfReplace.MatchedKinds.{kinds_match}
-use Rattle.unify_laws.proofs.replace.laws.matches_give_arguments_of_kinds.Goals as goal
-
-pub returns : goal.returns
-returns c = kinds_match

@@ -1,5 +1,0 @@
-use Rattle.unify_laws.proofs.OfReplace.Replacing.{replace_is_carrying}
-use Rattle.unify_laws.proofs.replace.laws.replacements_carry.Goals as goal
-
-pub returns : goal.returns
-returns c = replace_is_carrying

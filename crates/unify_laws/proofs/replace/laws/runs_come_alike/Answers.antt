@@ -1,5 +1,0 @@
-use Rattle.unify_laws.proofs.OfReplace.ComesAlike.{comes_alike}
-use Rattle.unify_laws.proofs.replace.laws.runs_come_alike.Goals as goal
-
-pub returns : goal.returns
-returns c = comes_alike

@@ -1,5 +1,0 @@
-use Rattle.unify_laws.proofs.OfReplace.ComesAlike.{comes_as_before}
-use Rattle.unify_laws.proofs.replace.laws.runs_come_as_before.Goals as goal
-
-pub returns : goal.returns
-returns c = comes_as_before

@@ -1,5 +1,0 @@
-pub mod Places
-pub mod Nameless
-pub mod Spots
-pub mod Simplify
-pub mod Replace
