@@ -1,6 +1,6 @@
 //! Normal forms and formulas at a place of a procedure: what stands there for variables,
-//! configuration fields and strides. Also which expressions and conditions agree, and that a well-
-//! formed procedure is affine.
+//! configuration fields and strides. Also which expressions and conditions agree, and that a
+//! well-formed procedure is affine.
 #![tactic(auto)]
 
 mod affine_extents;

@@ -1,5 +1,7 @@
--- Places of statements: a path leads to a context with a hole and to the statements that stand there.
-use Rattle.std.specs.Prelude.{ℕ, zero, suc, Bool, true, false, ◌==◌, ◌&&◌, List, [], ◌∷◌, ◌++◌, Option, Some, None, option_map, option_and_then}
+-- Places of statements: a path leads to a context with a hole and to the statements that stand
+-- there.
+use Rattle.std.specs.Prelude.{ℕ, zero, suc, Bool, true, false, ◌==◌, ◌&&◌, List, [], ◌∷◌, ◌++◌}
+use Rattle.std.specs.Prelude.{Option, Some, None, option_map, option_and_then}
 use Rattle.exo_tree.specs.Tree.{Statement, If, For, Block, end, next}
 use Rattle.exo_tree.specs.Context.{Context, Here, After, InLoop, InThen, InElse, fill}
 
@@ -7,7 +9,8 @@ use Rattle.exo_tree.specs.Context.{Context, Here, After, InLoop, InThen, InElse,
 pub data Branch : Type 0 where
   Main Else : Branch
 
--- into a branch, to the statement of that number in it; the first step of a path is into the procedure's body, by Main
+-- into a branch, to the statement of that number in it; the first step of a path is into the
+-- procedure's body, by Main
 pub record Step : Type 0 where
   pub branch : Branch
   pub index : ℕ
@@ -49,19 +52,25 @@ parted (suc n) (next a b) = option_map (λ p. (next a p.0, p.1)) (parted n b)
 abbrev pub past : ℕ → (Block → Option Opened) → Block → Option Opened
 past zero f b = f b
 past (suc k) f end = None
-past (suc k) f (next a b) = option_map (λ o. record { around = After a o.around; piece = o.piece }) (past k f b)
+past (suc k) f (next a b) =
+    option_map (λ o. record { around = After a o.around; piece = o.piece }) (past k f b)
 
 -- opens a branch of the first statement
 abbrev pub into : Branch → (Block → Option Opened) → Block → Option Opened
-into Main f (next (For i lo hi b) rest) = option_map (λ o. record { around = InLoop i lo hi o.around rest; piece = o.piece }) (f b)
-into Main f (next (If c a b) rest) = option_map (λ o. record { around = InThen c o.around b rest; piece = o.piece }) (f a)
-into Else f (next (If c a b) rest) = option_map (λ o. record { around = InElse c a o.around rest; piece = o.piece }) (f b)
+into Main f (next (For i lo hi b) rest) =
+    option_map (λ o. record { around = InLoop i lo hi o.around rest; piece = o.piece }) (f b)
+into Main f (next (If c a b) rest) =
+    option_map (λ o. record { around = InThen c o.around b rest; piece = o.piece }) (f a)
+into Else f (next (If c a b) rest) =
+    option_map (λ o. record { around = InElse c a o.around rest; piece = o.piece }) (f b)
 into branch f b = None
 
 -- so many statements from that path on; the branch of the first step is the caller's to look at
 abbrev pub opened_in : ℕ → Path → Block → Option Opened
 opened_in count [] b = None
-opened_in count (s ∷ []) b = past s.index (λ c. option_map (λ p. record { around = Here p.1; piece = p.0 }) (parted count c)) b
+opened_in count (s ∷ []) b =
+    past s.index
+    (λ c. option_map (λ p. record { around = Here p.1; piece = p.0 }) (parted count c)) b
 opened_in count (s ∷ t ∷ path) b = past s.index (into t.branch (opened_in count (t ∷ path))) b
 
 -- a procedure has its body alone
@@ -69,7 +78,8 @@ abbrev pub from_body : {A : Type 0} → Path → Option A → Option A
 from_body [] found = None
 from_body (s ∷ path) found = elim s.branch [ Main ↦ found | Else ↦ None ]
 
--- so many statements of a procedure's body from that path on, with what is round them; None where they are not there
+-- so many statements of a procedure's body from that path on, with what is round them; None where
+-- they are not there
 abbrev pub opened : ℕ → Path → Block → Option Opened
 opened count path body = from_body path (opened_in count path body)
 

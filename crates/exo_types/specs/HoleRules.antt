@@ -1,5 +1,6 @@
 -- Holes of templates, by the parameters as they are written.
-use Rattle.std.specs.Prelude.{◌≡◌, ℕ, ◌≤◌, Bool, false, if◌then◌else◌, List, [], ◌∷◌, ◌++◌, Option, Some, None, is_some, drop, slice_range}
+use Rattle.std.specs.Prelude.{◌≡◌, ℕ, ◌≤◌, Bool, false, if◌then◌else◌, List, [], ◌∷◌, ◌++◌}
+use Rattle.std.specs.Prelude.{Option, Some, None, is_some, drop, slice_range}
 use Rattle.std.specs.List.{list_any}
 use Rattle.exo_tree.specs.Tree.{Param}
 use Rattle.exo_meaning.specs.Units as units
@@ -17,7 +18,8 @@ is_control (strided type ds) = false
 
 -- `{n}` of a control value, `{x_data}` of a buffer
 abbrev pub is_written_hole : List ℕ → Parameter → Bool
-is_written_hole name p = if is_control p.form then is_text name p.name else is_text name (p.name ++ data_ending)
+is_written_hole name p =
+    if is_control p.form then is_text name p.name else is_text name (p.name ++ data_ending)
 
 -- the parameters of a procedure have the same holes as those that are written
 pub record HaveHoles (ps : List Param) (written : List Parameter) : Type 0 where

@@ -14,7 +14,9 @@ use Rattle.bounds_check.specs.Paths.{same_path}
 abbrev mutual
   pub block_paths : Path → Branch → ℕ → Block → List Path
   block_paths outer branch n end = []
-  block_paths outer branch n (next a b) = path_below outer branch n ∷ inner_paths (path_below outer branch n) a ++ block_paths outer branch (suc n) b
+  block_paths outer branch n (next a b) =
+      path_below outer branch n ∷ inner_paths (path_below outer branch n) a
+      ++ block_paths outer branch (suc n) b
 
   pub inner_paths : Path → Statement → List Path
   inner_paths path (Assign x is e) = []

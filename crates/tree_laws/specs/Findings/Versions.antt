@@ -1,5 +1,6 @@
 -- Well-formed units with one procedure more.
-use Rattle.std.specs.Prelude.{◌≡◌, ◌^◌, ◌+◌, ℕ, suc, nat_lt, nat_le, Bool, true, [], ◌∷◌, ◌++◌, length, Some, slice_get}
+use Rattle.std.specs.Prelude.{◌≡◌, ◌^◌, ◌+◌, ℕ, suc, nat_lt, nat_le, Bool, true, [], ◌∷◌, ◌++◌}
+use Rattle.std.specs.Prelude.{length, Some, slice_get}
 use Rattle.exo_tree.specs.Tree.{Procedure, Program}
 use Rattle.exo_meaning.specs.Run.{program_world}
 use Rattle.exo_meaning.specs.Units.{IsProcedure, IsUnit, field_kind}
