@@ -1,36 +1,24 @@
 -- The strides of dense buffers, whose cells lie row by row.
-use Rattle.std.specs.Prelude.{ℕ, suc, pos, ℤ, ◌*ℤ◌, Bool, true, false, ◌&&◌, if◌then◌else◌, List, [], ◌∷◌, drop}
-use Rattle.exo_tree.specs.Tree.{Control, Lit, Var, Field, StrideOf, Neg, Add, Sub, Mul, Div, Mod}
+use Rattle.std.specs.Prelude.{ℕ, suc, pos, ℤ, ◌*ℤ◌, Bool, true, ◌&&◌, if◌then◌else◌, List, [], ◌∷◌, drop}
+use Rattle.exo_tree.specs.Tree.{Control}
 use Rattle.exo_meaning.specs.Scene.{Scene, number}
 use Rattle.affine_forms.specs.Atoms.{OpaqueStride, Linear, constantly, only}
 use Rattle.affine_forms.specs.Forms.{Reading, Allowed, is_affine, keeps_rules, times, form, is_short_form, is_writable}
-
--- an extent that is a literal as a tree; `2 * 2` is none
-abbrev pub is_number : Control → Bool
-is_number (Lit n) = true
-is_number (Var x) = false
-is_number (Field f) = false
-is_number (StrideOf x k) = false
-is_number (Neg a) = false
-is_number (Add a b) = false
-is_number (Sub a b) = false
-is_number (Mul a b) = false
-is_number (Div a c) = false
-is_number (Mod a c) = false
+use Rattle.exo_meaning.specs.Units.{is_literal}
 
 abbrev pub are_numbers : List Control → Bool
 are_numbers [] = true
-are_numbers (e ∷ es) = is_number e && are_numbers es
+are_numbers (e ∷ es) = is_literal e && are_numbers es
 
 -- at most one extent is no literal
 abbrev pub is_one_open : List Control → Bool
 is_one_open [] = true
-is_one_open (e ∷ es) = if is_number e then is_one_open es else are_numbers es
+is_one_open (e ∷ es) = if is_literal e then is_one_open es else are_numbers es
 
 -- the product of extents of which at most one is no literal
 abbrev pub product_form : Reading → List Control → Linear
 product_form at [] = constantly (pos 1)
-product_form at (e ∷ es) = times (is_number e) (form at e) (product_form at es)
+product_form at (e ∷ es) = times (is_literal e) (form at e) (product_form at es)
 
 -- its numbers and those of its parts can be written down
 abbrev pub product_fits : Reading → List Control → Bool

@@ -3,9 +3,10 @@ ghost use Rattle.std.specs.Prelude.{◌≡◌, ◌<◌, IsTrue, length, map};
 ghost use Rattle.exo_tree.specs.PlainControl.{control};
 ghost use Rattle.affine_forms.specs.Outcomes.{Formed};
 ghost use Rattle.affine_forms.specs.Forms.{is_short_form};
-ghost use Rattle.affine_forms.specs.Strides.{is_number, are_numbers, is_one_open, product_form};
+ghost use Rattle.affine_forms.specs.Strides.{are_numbers, is_one_open, product_form};
 ghost use Rattle.affine_forms.specs.Strides.{product_fits, dense_stride, dense_stride_fits};
 ghost use Rattle.affine_forms.specs.Strides.{all_keep_rules};
+ghost use Rattle.exo_meaning.specs.Units.{is_literal};
 
 use crate::atom::Atom;
 use crate::error::FormError;
@@ -15,8 +16,8 @@ use exo_tree::{Ctrl, Id};
 use std::alloc::Global;
 
 /// Whether an extent is a literal as a tree.
-fn is_number(e: &Ctrl) -> bool
-    ensures { result ≡ is_number (control e.now) }
+fn is_literal(e: &Ctrl) -> bool
+    ensures { result ≡ is_literal (control e.now) }
 {
     match e {
         Ctrl::Lit(_) => true,
@@ -38,7 +39,7 @@ fn are_numbers(extents: &[Ctrl]) -> bool
 {
     match extents.split_first() {
         None => true,
-        Some((e, rest)) => is_number(e) && are_numbers(rest),
+        Some((e, rest)) => is_literal(e) && are_numbers(rest),
     }
 }
 
@@ -49,7 +50,7 @@ fn is_one_open(extents: &[Ctrl]) -> bool
     match extents.split_first() {
         None => true,
         Some((e, rest)) => {
-            if is_number(e) {
+            if is_literal(e) {
                 is_one_open(rest)
             } else {
                 are_numbers(rest)
@@ -73,7 +74,7 @@ pub fn extent_product<R: Reader>(
         Some((e, rest)) => {
             let extent = form(alloc, reader, e)?;
             let after = extent_product(alloc, reader, rest)?;
-            times(alloc, is_number(e), &extent, &after)
+            times(alloc, is_literal(e), &extent, &after)
         }
     }
 }

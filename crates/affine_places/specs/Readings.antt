@@ -80,12 +80,8 @@ field_form fields roots f (Some (Known (Window x cs))) = constantly (pos 0)
 field_form fields roots f (Some (UnknownAt path)) = only (UnknownField f (kind_of fields f) path)
 
 abbrev pub field_fits : List ConfigField → Roots → Option Fact → Bool
-field_fits fields roots None = true
 field_fits fields roots (Some (Known (ControlArg e))) = is_writable (entry_reading fields roots) e
-field_fits fields roots (Some (Known (ConditionArg c))) = true
-field_fits fields roots (Some (Known (Whole x))) = true
-field_fits fields roots (Some (Known (Window x cs))) = true
-field_fits fields roots (Some (UnknownAt path)) = true
+field_fits fields roots _ = true
 
 abbrev pub place_reading : List ConfigField → Roots → List FieldFact → Reading
 place_reading fields roots facts = record {
@@ -106,12 +102,8 @@ field_formula fields roots f (Some (Known (Window x cs))) = row (constantly (pos
 field_formula fields roots f (Some (UnknownAt path)) = flag_atom (UnknownField f (kind_of fields f) path)
 
 abbrev pub field_formula_fits : List ConfigField → Roots → Option Fact → Bool
-field_formula_fits fields roots None = true
-field_formula_fits fields roots (Some (Known (ControlArg e))) = true
 field_formula_fits fields roots (Some (Known (ConditionArg c))) = is_writable_condition (entry_reading fields roots) (λ f. true) c
-field_formula_fits fields roots (Some (Known (Whole x))) = true
-field_formula_fits fields roots (Some (Known (Window x cs))) = true
-field_formula_fits fields roots (Some (UnknownAt path)) = true
+field_formula_fits fields roots _ = true
 
 abbrev pub place_flags : List ConfigField → Roots → List FieldFact → Flags
 place_flags fields roots facts = record {

@@ -1,6 +1,5 @@
 -- Where the rule that lifts an allocation takes statements.
 use Rattle.std.proofs.Common.{◌≡◌, ◌≤◌, arith, le-leb, ℕ, suc, true, ◌||◌, ◌&&◌, List, [], ◌∷◌}
-use Rattle.proc_laws.specs.Expression.Passes.{or_one_pass}
 use Rattle.std.proofs.Common.{length}
 use Rattle.std.proofs.Common.{Option, Some, None, option_map, refl, sym, ap, ◌∙◌, subst}
 use Rattle.std.specs.Prelude.{nat_le, ◌+◌}
@@ -10,7 +9,7 @@ use Rattle.exo_tree.specs.Context.{Context, Here, After, InLoop, InThen, InElse}
 use Rattle.exo_tree.specs.Places.{Branch, Main, Else, Opened, opened, opened_in, into, parted}
 use Rattle.place_laws.specs.Scope.Holes.{behind}
 use Rattle.place_laws.proofs.OfScope.BehindBlocks.{opened_behind}
-use Rattle.tree_edits.specs.Made.Passes.{or_pass}
+use Rattle.tree_edits.specs.Made.Passes.{or_pass, or_one_pass}
 use Rattle.cursor_forward.specs.Forwards.{kind_of, AreCarried, Carries, are_apart}
 use Rattle.cursor_forward.specs.Shifts.{Shift, at_index, alone, range}
 use Rattle.buffer_laws.specs.Buffers.{Buffer, allocation}

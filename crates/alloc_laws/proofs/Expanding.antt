@@ -56,7 +56,6 @@ use Rattle.buffer_laws.specs.Expanded.{expanded, expanded_buffer, at_point, smal
 use Rattle.buffer_laws.specs.Expanded.{part_coords}
 use Rattle.buffer_laws.specs.Expanded.{MayBePart, MayExpand, EndsAlike}
 use Rattle.buffer_laws.specs.ExpandText.{either_name, HasText}
-use Rattle.buffer_laws.specs.StageMem.{whole_coords}
 use Rattle.buffer_laws.proofs.Buffers.{behind, is_behind, updated_own}
 use Rattle.buffer_laws.proofs.Expanded.{turned_round}
 use Rattle.buffer_laws.proofs.ExpandText.{expand_text_law}
@@ -80,6 +79,7 @@ use Rattle.alloc_laws.proofs.Lifting.{parted_is}
 use Rattle.alloc_laws.proofs.Memory.{buffer_is}
 use Rattle.alloc_laws.proofs.Outside.{outside_law}
 use Rattle.alloc_laws.proofs.Told.{Kept, block_told}
+use Rattle.match_laws.specs.Names.{whole_of}
 
 some_same : {A : Type 0} {a b : A} → Some a ≡ Some b → a ≡ b
 some_same e = cc
@@ -278,23 +278,23 @@ first_part (next a b) c x h =
     both_false (step_has_binder a x) (has_binder b x) p.0 (first_part b c x p.1)
 
 whole_free : (hidden : ℕ → Bool) (ds : List Control) → in_controls hidden ds ≡ false
-    → in_coords hidden (whole_coords ds) ≡ false
+    → in_coords hidden (whole_of ds) ≡ false
 whole_free hidden [] h = refl
 whole_free hidden (d ∷ ds) h =
     let p = or_parts (uses hidden d) (in_controls hidden ds) h in
-    both_false (uses hidden d) (in_coords hidden (whole_coords ds)) p.0 (whole_free hidden ds p.1)
+    both_false (uses hidden d) (in_coords hidden (whole_of ds)) p.0 (whole_free hidden ds p.1)
 
 whole_open : (hidden : ℕ → Bool) (ds : List Control) → in_controls hidden ds ≡ false → (y : ℕ)
-    → coords_have (whole_coords ds) y ≡ true → hidden y ≡ false
+    → coords_have (whole_of ds) y ≡ true → hidden y ≡ false
 whole_open hidden [] h y k = absurd (true≢false (sym k))
 whole_open hidden (d ∷ ds) h y k = by (whole_open hidden ds p.1 y) (has_variable d y) refl k
   where
     p : (uses hidden d ≡ false) × (in_controls hidden ds ≡ false)
     p = or_parts (uses hidden d) (in_controls hidden ds) h
 
-    by : (coords_have (whole_coords ds) y ≡ true → hidden y ≡ false) → (t : Bool)
+    by : (coords_have (whole_of ds) y ≡ true → hidden y ≡ false) → (t : Bool)
         → has_variable d y ≡ t
-        → (t || coords_have (whole_coords ds) y) ≡ true
+        → (t || coords_have (whole_of ds) y) ≡ true
         → hidden y ≡ false
     by later true e k = control_open hidden y d p.0 e
     by later false e k = later k
@@ -479,7 +479,7 @@ module _ (size e : Control) (a : Site) (is : IsSite (expand_rule size e) a) (x :
           gone =
               (block_told (field_kind s.target.unit.fields) (length s.target.unit.memories)
               (program_world s.target.unit).callees id e (Lit (pos 0)) base (part_coords c x) base_other
-              (both_false (uses (is_buffer x) c) (in_coords (is_buffer x) (whole_coords x.dims))
+              (both_false (uses (is_buffer x) c) (in_coords (is_buffer x) (whole_of x.dims))
               (less_control (either_name base x) (is_buffer x) own_less c point.either)
               (whole_free (is_buffer x) x.dims own.1)) rest
               (scope_behind (allocation (expanded_buffer size x)) (found_scope s))
@@ -494,7 +494,7 @@ module _ (size e : Control) (a : Site) (is : IsSite (expand_rule size e) a) (x :
       where
         kept_by : in_controls (has_binder rest) x.dims ≡ false → (y : ℕ) → (t : Bool)
             → has_variable c y ≡ t
-            → (t || coords_have (whole_coords x.dims) y) ≡ true → has_binder rest y ≡ false
+            → (t || coords_have (whole_of x.dims) y) ≡ true → has_binder rest y ≡ false
         kept_by d y true e h = point.kept y e
         kept_by d y false e h = whole_open (has_binder rest) x.dims d y h
 

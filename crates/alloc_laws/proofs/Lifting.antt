@@ -1,6 +1,5 @@
 -- The rule that puts an allocation of a loop or branch before the loop or condition is lawful.
 use Rattle.std.proofs.Common.{◌≡◌, inr, ℕ, zero, suc, Bool, true, false, ◌==◌, ◌||◌, not}
-use Rattle.proc_laws.specs.Expression.Passes.{or_one_pass}
 use Rattle.std.proofs.Common.{true≢false}
 use Rattle.std.proofs.Common.{List, length, Option, Some, None, refl, sym, ap, ap₂, ◌∙◌, subst}
 use Rattle.std.proofs.Common.{eqb-true}
@@ -30,7 +29,7 @@ use Rattle.place_laws.proofs.OfScope.MayLeave.{may_leave_law}
 use Rattle.check_laws.proofs.OfFacts.Binders.{IsApart, StepIsApart, apart_there}
 use Rattle.check_laws.proofs.OfFacts.Truths.{contrary, on_left, on_right}
 use Rattle.buffer_laws.specs.Buffers.{Buffer, allocation, buffer_of, is_buffer}
-use Rattle.buffer_laws.specs.Lifted.{with_buffer_in, MayLift, loop_with, lifted_from_loop}
+use Rattle.buffer_laws.specs.Lifted.{with_buffer_in, MayLift, lifted_from_loop}
 use Rattle.buffer_laws.specs.Lifted.{branch_with, lifted_from_then, lifted_from_else}
 use Rattle.buffer_laws.proofs.Lifted.{lift_from_loop, lift_from_then, lift_from_else}
 use Rattle.step_rules.specs.Rule.{Got, Spot}
@@ -46,6 +45,8 @@ use Rattle.alloc_laws.proofs.Here.{is_other, not_bound, top_binds, less_control,
 use Rattle.alloc_laws.proofs.Here.{Names, names_of, has_it, has_before, before_lacks}
 use Rattle.alloc_laws.proofs.Here.{AreFormed, alloc_formed}
 use Rattle.alloc_laws.proofs.Memory.{buffer_is}
+use Rattle.place_laws.specs.Scope.UnrollLoop.{only_loop}
+use Rattle.tree_edits.specs.Made.Passes.{or_one_pass}
 
 some_same : {A : Type 0} {a b : A} → Some a ≡ Some b → a ≡ b
 some_same e = cc
@@ -180,7 +181,7 @@ as_run world hidden was new made u m e =
 -- ---- out of a loop
 
 module _ (s : Spot) (is : IsSpot s) (i : Binder) (lo hi : Control) (before : Block) (x : Buffer)
-    (behind : Block) (was : old s ≡ loop_with i lo hi (with_buffer_in before x behind))
+    (behind : Block) (was : old s ≡ only_loop i lo hi (with_buffer_in before x behind))
     (dims : AreFormed (found_scope s) x.dims) where
   abbrev body : Block
   body = with_buffer_in before x behind
@@ -192,11 +193,11 @@ module _ (s : Spot) (is : IsSpot s) (i : Binder) (lo hi : Control) (before : Blo
   inside_loop = on_right (x.binder.id == i.id) (has_binder body x.binder.id) (has_it x behind before)
 
   abbrev made : Block
-  made = next (allocation x) (loop_with i lo hi (or_one_pass (joined before behind)))
+  made = next (allocation x) (only_loop i lo hi (or_one_pass (joined before behind)))
 
   loop_passes : (u : State) (d : Block)
-      → run (world_of s) (next (allocation x) (loop_with i lo hi d)) u
-      ≡ run (world_of s) (next (allocation x) (loop_with i lo hi (or_one_pass d))) u
+      → run (world_of s) (next (allocation x) (only_loop i lo hi d)) u
+      ≡ run (world_of s) (next (allocation x) (only_loop i lo hi (or_one_pass d))) u
   loop_passes u end = refl
   loop_passes u (next a b) = refl
 
@@ -213,7 +214,7 @@ module _ (s : Spot) (is : IsSpot s) (i : Binder) (lo hi : Control) (before : Blo
       hiding (is_buffer x) (may_leave s is loop was x inside_loop refl).unused
       (λ first u good come stands.
       subst (λ b. MayReplace (world_of s) (is_buffer x) b made u) (sym was)
-      (as_run (world_of s) (is_buffer x) (loop_with i lo hi body)
+      (as_run (world_of s) (is_buffer x) (only_loop i lo hi body)
       (lifted_from_loop i lo hi before x behind) made u
       (lift_from_loop (world_of s) i lo hi before x behind u
       (unit_respects (kinds_of s.target.unit.fields) s.target.unit.procedures) (record {

@@ -1,6 +1,5 @@
 -- The rule that puts an allocation of a loop or branch before the loop or condition.
 use Rattle.std.specs.Prelude.{ℕ, suc, List, [], ◌∷◌, length, Option, Some, None}
-use Rattle.proc_laws.specs.Expression.Passes.{or_one_pass}
 use Rattle.std.specs.Prelude.{option_map, option_and_then}
 use Rattle.exo_tree.specs.Tree.{Statement, Assign, Reduce, Config, Pass, If, For, Alloc, View, Call}
 use Rattle.exo_tree.specs.Tree.{Block, end, next, joined, statements}
@@ -9,6 +8,7 @@ use Rattle.cursor_forward.specs.Shifts.{Shift, at_index, alone, range}
 use Rattle.buffer_laws.specs.Buffers.{Buffer, allocation, buffer_of}
 use Rattle.step_rules.specs.Rule.{Rule, plain_rule}
 use Rattle.step_rules.specs.Shapes.{tried, alone_in, one_statement}
+use Rattle.tree_edits.specs.Made.Passes.{or_one_pass}
 
 -- ---- what stands in what
 

@@ -16,11 +16,12 @@ use Rattle.check_claims.specs.Claims.{claims_of}
 use Rattle.check_facts.specs.Contexts.{IsPlaceOf}
 use Rattle.bounds_check.specs.Paths.{same_branch, same_path}
 use Rattle.affine_systems.specs.Limits.{are_within}
-use Rattle.bounds_check.specs.Laws.{claim_keeps_rules, is_place_of, may_be_owed}
+use Rattle.bounds_check.specs.Laws.{claim_keeps_rules, may_be_owed}
 use Rattle.bounds_check.specs.Obligations.{Fault, Wide, ManyCases, LargeSystem, ManyObligations, owed_for, owed_for_all, unless_refused, claim_fault, first_fault}
 use Rattle.bounds_check.specs.Outcomes.{IsRefusal, AreObligations, AreOwedFor}
 use Rattle.bounds_check.specs.declared.error.CheckError.{CheckError}
 use Rattle.bounds_check.specs.declared.error.CheckError.TheVariants.{TooManyObligations, Form, Memory}
+use Rattle.effect_conflicts.specs.Standings.{is_place}
 
 -- ---- claims of one place
 
@@ -80,7 +81,7 @@ rules_of p [] h = refl
 rules_of p (c ∷ cs) h =
     let q = and_parts (may_be_owed p c) (list_all (may_be_owed p) cs) h in
     and_from (claim_keeps_rules c.claim) (list_all (λ d. claim_keeps_rules d.claim) cs)
-    (and_parts (claim_keeps_rules c.claim) (is_place_of c.place p) q.0).0 (rules_of p cs q.1)
+    (and_parts (claim_keeps_rules c.claim) (is_place c.place p) q.0).0 (rules_of p cs q.1)
 
 -- ---- faults of lists in two parts
 
@@ -174,13 +175,13 @@ all_owed u p cs (Err x) e h = subst (λ l. IsRefusal x (first_fault u p [] l)) e
 
 -- ---- places
 
-pub is_place : (path : Path) (p : Procedure) → is_place_of path p ≡ true → IsPlaceOf path p
-is_place [] p h = tt
-is_place (s ∷ path) p h = h
+pub is_place_of : (path : Path) (p : Procedure) → is_place path p ≡ true → IsPlaceOf path p
+is_place_of [] p h = tt
+is_place_of (s ∷ path) p h = h
 
 pub place_of_first : {A : Type 0} (f : A → Placed) (p : Procedure) (xs : List A) (x : A) → slice_get xs 0 ≡ Some x → list_all (may_be_owed p) (map f xs) ≡ true → IsPlaceOf (f x).place p
 place_of_first f p [] x e h = cc
-place_of_first {A} f p (y ∷ xs) x e h = subst (λ z. IsPlaceOf (f z).place p) (some_is y x e) (is_place (f y).place p (and_parts (claim_keeps_rules (f y).claim) (is_place_of (f y).place p) (and_parts (may_be_owed p (f y)) (list_all (may_be_owed p) (map f xs)) h).0).1)
+place_of_first {A} f p (y ∷ xs) x e h = subst (λ z. IsPlaceOf (f z).place p) (some_is y x e) (is_place_of (f y).place p (and_parts (claim_keeps_rules (f y).claim) (is_place (f y).place p) (and_parts (may_be_owed p (f y)) (list_all (may_be_owed p) (map f xs)) h).0).1)
   where
     some_is : (a b : A) → Some a ≡ Some b → a ≡ b
     some_is a b k = cc

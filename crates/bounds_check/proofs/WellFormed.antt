@@ -16,11 +16,12 @@ use Rattle.check_facts.specs.Laws.{WellFormedMayBeWalked}
 use Rattle.text_show.specs.Words.{words_of}
 use Rattle.check_claims.specs.Extents.{no_extents, with_params, extents_of}
 use Rattle.check_claims.specs.Claims.{placed_at, param_claims, block_claims, claims_of}
-use Rattle.bounds_check.specs.Laws.{is_place_of, ClaimsMayBeOwed}
+use Rattle.bounds_check.specs.Laws.{ClaimsMayBeOwed}
 use Rattle.bounds_check.specs.Sites.{IsFormed}
 use Rattle.bounds_check.proofs.Affine.{all_pass, condition_affine, params_affine}
 use Rattle.bounds_check.proofs.Affines.{claim_affine, appended, placed_affine, CalleeAffine, AreCalleesAffine, AreAffine, params_extents, params_claims, block_affine, block_extents}
 use Rattle.bounds_check.proofs.Places.{step, own_places, block_places}
+use Rattle.effect_conflicts.specs.Standings.{is_place}
 
 -- ---- the procedures of a unit
 
@@ -58,14 +59,14 @@ module _ (fields : ℕ → Option Kind) (memories : ℕ) (callees : ℕ → Opti
 
 -- ---- places
 
-claims_placed : (u : Program) (p : Procedure) → list_all (λ c. is_place_of c.place p) (claims_of u p) ≡ true
+claims_placed : (u : Program) (p : Procedure) → list_all (λ c. is_place c.place p) (claims_of u p) ≡ true
 claims_placed u p =
     let w = words_of u p in
     let roots = roots_of p in
-    let test : Path → Bool = λ path. is_place_of path p in
+    let test : Path → Bool = λ path. is_place path p in
     appended (λ c. test c.place) (placed_at [] (param_claims w p.params)) (block_claims w u (extents_of p) roots [] Main 0 p.body)
     (own_places w u (extents_of p) roots test [] (param_claims w p.params) refl)
-    (block_places w u (extents_of p) roots test [] Main 0 p.body (λ j path e. ap (λ n. is_place_of (step Main n ∷ path) p) (same j) ∙ e))
+    (block_places w u (extents_of p) roots test [] Main 0 p.body (λ j path e. ap (λ n. is_place (step Main n ∷ path) p) (same j) ∙ e))
   where
     same : (j : ℕ) → 0 + j ≡ j
     same j = omega arith
@@ -83,7 +84,7 @@ callees_affine u h k q e = let f = unit_formed u k q h e in procedure_affine (fi
 pub claims_may_be_owed : ClaimsMayBeOwed
 claims_may_be_owed u k p h e =
     let f = unit_formed u k p h e in
-    both_pass claim_affine (λ c. is_place_of c.place p) (claims_of u p)
+    both_pass claim_affine (λ c. is_place c.place p) (claims_of u p)
     (claims_affine (field_kind u.fields) (length u.memories) (slice_get f.0) p f.1 u (callees_affine u h))
     (claims_placed u p)
 

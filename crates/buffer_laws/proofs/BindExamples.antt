@@ -13,12 +13,13 @@ use Rattle.meaning_laws.specs.Context.{ComesTo}
 use Rattle.meaning_laws.specs.Copies.{IsFree}
 use Rattle.meaning_laws.specs.Sorted.{MayRun}
 use Rattle.place_laws.specs.Scope.Opened.{MayLeave}
-use Rattle.buffer_laws.specs.Bound.{Hole, Top, InPlus, filled, stores, only_statement, bound, IsShort}
+use Rattle.buffer_laws.specs.Bound.{Hole, Top, InPlus, filled, stores, bound, IsShort}
 use Rattle.buffer_laws.specs.BoundAtPlaces.{IsBufferIn, ReadsCell}
 use Rattle.buffer_laws.specs.Buffers.{is_buffer}
 use Rattle.buffer_laws.proofs.BoundAtPlaces.{bound_fits_at_place, bind_at_place}
 use Rattle.buffer_laws.proofs.Examples.{named, one_cell}
 use Rattle.buffer_laws.proofs.StageAccumExamples.{world, sums_of_body, fives}
+use Rattle.place_laws.specs.Order.Statements.{one}
 
 abbrev third : Datum
 third = Read 0 (Lit (pos 3) ∷ [])
@@ -27,7 +28,7 @@ abbrev more : Hole
 more = InPlus Top (Const (pos 1))
 
 abbrev before : Block
-before = only_statement (stores false 0 (Lit (pos 0) ∷ []) (filled more third))
+before = one (stores false 0 (Lit (pos 0) ∷ []) (filled more third))
 
 abbrev with_cell : Block
 with_cell = bound one_cell false 0 (Lit (pos 0) ∷ []) more third

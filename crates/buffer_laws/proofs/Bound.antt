@@ -23,9 +23,10 @@ use Rattle.place_laws.proofs.OfScope.Opened.{leaving_refines}
 use Rattle.buffer_laws.specs.Buffers.{Buffer, allocation, is_buffer}
 use Rattle.buffer_laws.specs.Bound.{Hole, Top, InNegated, InRelu, InPlus, InMinus, InTimes, PlusIn}
 use Rattle.buffer_laws.specs.Bound.{MinusIn, TimesIn, InFirst, InSecond, InThird, InFourth, filled}
-use Rattle.buffer_laws.specs.Bound.{stores, only_statement, bound, MayBind, ValuesFit, BindLaw}
+use Rattle.buffer_laws.specs.Bound.{stores, bound, MayBind, ValuesFit, BindLaw}
 use Rattle.buffer_laws.specs.Bound.{BindRefines}
 use Rattle.buffer_laws.proofs.Buffers.{shape_of, behind, is_behind, beside, updated_own}
+use Rattle.place_laws.specs.Order.Statements.{one}
 
 -- ---- values in states that differ at hidden names alone
 
@@ -308,10 +309,10 @@ module _ (world : World) (x : Buffer) (reduces : Bool) (y : ℕ) (is : List Cont
       (λ v. put t (λ old. v) p))) (filled_same t a b k h)
 
   abbrev old : Block
-  old = only_statement (stores reduces y is (filled h e))
+  old = one (stores reduces y is (filled h e))
 
   abbrev last : Block
-  last = only_statement (stores reduces y is (filled h (Read x.binder.id [])))
+  last = one (stores reduces y is (filled h (Read x.binder.id [])))
 
   pub alike : (a b : State) → run world old s ≡ Some a
       → run world (bound x reduces y is h e) s ≡ Some b → SameBut (is_buffer x) a b
@@ -341,7 +342,7 @@ bind_law world x reduces y is h e s may = record {
 
 pub bind_refines : BindRefines
 bind_refines kinds ps p c x reduces y is h e was leave dims unused fits =
-    leaving_refines kinds ps c (only_statement (stores reduces y is (filled h e)))
+    leaving_refines kinds ps c (one (stores reduces y is (filled h e)))
     (bound x reduces y is h e) p (record p { body = fill c (bound x reduces y is h e) })
     (is_buffer x) was refl leave
     (λ s u good come none. bind_law (unit_world kinds ps) x reduces y is h e u (record {

@@ -15,9 +15,10 @@ use Rattle.meaning_laws.specs.Sound.{IsSound}
 use Rattle.meaning_laws.proofs.Copies.{sound_law}
 use Rattle.meaning_laws.proofs.Parts.{then_gives}
 use Rattle.meaning_laws.proofs.Sorted.{fits_at_law}
-use Rattle.buffer_laws.specs.Bound.{bound_cell, HaveCells, IsShort, filled, stores, only_statement}
+use Rattle.buffer_laws.specs.Bound.{bound_cell, HaveCells, IsShort, filled, stores}
 use Rattle.buffer_laws.specs.BoundAtPlaces.{ReadsCell, BoundFitsAtPlace, BindAtPlace}
 use Rattle.buffer_laws.proofs.Bound.{values_fit, bind_refines}
+use Rattle.place_laws.specs.Order.Statements.{one}
 
 module _ (u : State) where
   abbrev cell_in : Option Shape → Cell
@@ -82,5 +83,5 @@ bind_at_place fields memories ps p c cells x reduces y is h e may was leaves dim
     bind_refines (kinds_of fields) ps p c x reduces y is h e was leaves dims unused
     (λ s u v good come f. subst (λ k. FitsCell k v) (sym cell)
     (bound_fits_at_place fields memories ps p c
-    (only_statement (stores reduces y is (filled h e))) cells e s u v may was reads short good come
+    (one (stores reduces y is (filled h e))) cells e s u v may was reads short good come
     f))

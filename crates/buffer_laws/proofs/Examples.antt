@@ -30,10 +30,10 @@ use Rattle.meaning_laws.proofs.Replace.{unit_respects}
 use Rattle.inplace_laws.specs.Along.{SameAlong}
 use Rattle.place_laws.specs.Scope.Scopes.{HasNone}
 use Rattle.buffer_laws.specs.Buffers.{Buffer, is_still_used, only_buffer, in_memory, is_buffer}
-use Rattle.buffer_laws.specs.Lifted.{loop_with, with_buffer_in, lifted_from_loop, MayLift}
+use Rattle.buffer_laws.specs.Lifted.{with_buffer_in, lifted_from_loop, MayLift}
 use Rattle.buffer_laws.specs.Lifted.{branch_with, lifted_from_then, lifted_from_else}
 use Rattle.buffer_laws.proofs.Lifted.{lift_from_then, lift_from_else, lift_then_law, lift_else_law}
-use Rattle.buffer_laws.specs.Bound.{Hole, Top, PlusIn, stores, only_statement, filled, bound}
+use Rattle.buffer_laws.specs.Bound.{Hole, Top, PlusIn, stores, filled, bound}
 use Rattle.buffer_laws.specs.Simplified.{IsSimplifier, simplified}
 use Rattle.buffer_laws.specs.Expanded.{expanded, may_expand, small}
 use Rattle.buffer_laws.specs.Expanded.{with_larger}
@@ -42,6 +42,8 @@ use Rattle.buffer_laws.proofs.Buffers.{memory_law, delete_law}
 use Rattle.buffer_laws.proofs.Lifted.{lift_from_loop, lift_law}
 use Rattle.buffer_laws.proofs.Bound.{values_fit, bind_law, bind_refines}
 use Rattle.buffer_laws.proofs.Simplified.{simplified_along, simplified_law}
+use Rattle.place_laws.specs.Scope.UnrollLoop.{only_loop}
+use Rattle.place_laws.specs.Order.Statements.{one}
 
 abbrev pub named : ℕ → Binder
 named n = record { id = n; name = 97 ∷ n ∷ [] }
@@ -99,7 +101,7 @@ set_cell = next (Assign 2 (Var 1 ∷ []) (Const (pos 7))) end
 
 -- for i in seq(0, 2): pass; t : i32[4]; t[i] = 7
 lifted : MayReplace world (is_buffer four)
-    (loop_with (named 1) (Lit (pos 0)) (Lit (pos 2)) (with_buffer_in (next Pass end) four set_cell))
+    (only_loop (named 1) (Lit (pos 0)) (Lit (pos 2)) (with_buffer_in (next Pass end) four set_cell))
     (lifted_from_loop (named 1) (Lit (pos 0)) (Lit (pos 2)) (next Pass end) four set_cell) nothing
 lifted = lift_from_loop world (named 1) (Lit (pos 0)) (Lit (pos 2)) (next Pass end) four set_cell
     nothing (unit_respects (λ f. Index) []) (record {
@@ -110,11 +112,11 @@ lifted = lift_from_loop world (named 1) (Lit (pos 0)) (Lit (pos 2)) (next Pass e
       made = refl;
     }) refl refl
 
-lifted_at : Refines world (with_body (loop_with (named 1) (Lit (pos 0)) (Lit (pos 2))
+lifted_at : Refines world (with_body (only_loop (named 1) (Lit (pos 0)) (Lit (pos 2))
     (with_buffer_in (next Pass end) four set_cell)))
     (with_body (lifted_from_loop (named 1) (Lit (pos 0)) (Lit (pos 2)) (next Pass end) four
     set_cell)) []
-lifted_at = lift_law (λ f. Index) [] (with_body (loop_with (named 1) (Lit (pos 0)) (Lit (pos 2))
+lifted_at = lift_law (λ f. Index) [] (with_body (only_loop (named 1) (Lit (pos 0)) (Lit (pos 2))
     (with_buffer_in (next Pass end) four set_cell))) (Here end) (named 1) (Lit (pos 0))
     (Lit (pos 2)) (next Pass end) four set_cell refl
     (record { free = λ x e. (refl, refl); unused = refl }) refl refl refl refl refl refl
@@ -199,7 +201,7 @@ product_fits v e = values_fit (λ y. I32) nothing product v (has_none (λ y. fal
     not_const n k = cc
 
 bound_in_sum : MayReplace world (is_buffer one_cell)
-    (only_statement (stores false 5 [] (filled in_sum product)))
+    (one (stores false 5 [] (filled in_sum product)))
     (bound one_cell false 5 [] in_sum product) nothing
 bound_in_sum = bind_law world one_cell false 5 [] in_sum product nothing (record {
   none = has_none (is_buffer one_cell);
@@ -212,10 +214,10 @@ product_is : (u : State) (v : Value) → value u product ≡ Some v → FitsCell
 unfolding int_wrap
 product_is u v e = subst (FitsCell I32) (one_value (Number (pos 6)) v e) refl
 
-bound_at : Refines world (with_body (only_statement (stores false 5 [] (filled in_sum product))))
+bound_at : Refines world (with_body (one (stores false 5 [] (filled in_sum product))))
     (with_body (bound one_cell false 5 [] in_sum product)) []
 bound_at = bind_refines (λ f. Index) []
-    (with_body (only_statement (stores false 5 [] (filled in_sum product)))) (Here end) one_cell
+    (with_body (one (stores false 5 [] (filled in_sum product)))) (Here end) one_cell
     false 5 [] in_sum product refl (record { free = λ x e. (refl, refl); unused = refl }) refl refl
     (λ s u v good come e. product_is u v e)
 

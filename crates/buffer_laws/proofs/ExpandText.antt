@@ -31,13 +31,13 @@ use Rattle.buffer_laws.specs.Expanded.{expanded, expanded_buffer, small, enlarge
 use Rattle.buffer_laws.specs.Expanded.{passes_whole, part_of, part_coords, MayExpand}
 use Rattle.buffer_laws.specs.Expanded.{MayBePart, EndsAlike}
 use Rattle.buffer_laws.specs.ExpandText.{either_name, HasText, ExpandTextLaw, ExpandTextRefines}
-use Rattle.buffer_laws.specs.StageMem.{whole_coords}
 use Rattle.buffer_laws.proofs.Expanded.{turned_round, under_same}
 use Rattle.buffer_laws.proofs.ExpandedIds.{block, controls_stay}
 use Rattle.buffer_laws.proofs.ExpandedZeros.{along}
+use Rattle.match_laws.specs.Names.{whole_of}
 
 whole_free : (moved : ℕ → Bool) (ds : List Control) → controls_mention moved ds ≡ false
-    → coords_mention moved (whole_coords ds) ≡ false
+    → coords_mention moved (whole_of ds) ≡ false
 whole_free moved [] h = refl
 whole_free moved (d ∷ ds) h =
     let p = or_parts (control_mentions moved d) (controls_mention moved ds) h in
@@ -100,11 +100,11 @@ module _ (world : World) (a : ℕ) (n e : Control) (x : Buffer) (rest : Block) (
   rest_same u = go x.dims text.shape
     where
       go : (ds : List Control) → ((length ds == 0) || not (passes_whole id rest)) ≡ true
-          → run world (windows.in_block id (Window id (At e ∷ whole_coords ds)) rest) u
+          → run world (windows.in_block id (Window id (At e ∷ whole_of ds)) rest) u
           ≡ run world (windows.in_block id (Window id (At e ∷ [])) rest) u
       go [] h = refl
       go (d ∷ ds) h = along_law world
-          (windows.in_block id (Window id (At e ∷ whole_coords (d ∷ ds))) rest)
+          (windows.in_block id (Window id (At e ∷ whole_of (d ∷ ds))) rest)
           (windows.in_block id (Window id (At e ∷ [])) rest) u
           (along id e (d ∷ ds) world rest u (not_true (passes_whole id rest)
           (ap (λ r. r || not (passes_whole id rest))

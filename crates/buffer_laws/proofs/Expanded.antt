@@ -51,11 +51,11 @@ use Rattle.buffer_laws.specs.Expanded.{ExpandLaw}
 use Rattle.buffer_laws.specs.Expanded.{ExpandUnderIds, ExpandRefines}
 use Rattle.buffer_laws.specs.Lifted.{are_plain}
 use Rattle.buffer_laws.specs.Simplified.{IsSimplifier}
-use Rattle.buffer_laws.specs.StageMem.{whole_coords}
 use Rattle.buffer_laws.proofs.Buffers.{updated_own, shape_of, behind, is_behind}
 use Rattle.buffer_laws.proofs.Lifted.{numbers_kept, none_in_all}
 use Rattle.buffer_laws.proofs.Simplified.{simplified_law}
 use Rattle.buffer_laws.proofs.Shown.{block, not_made}
+use Rattle.match_laws.specs.Names.{whole_of}
 
 -- ---- the whole of a buffer
 
@@ -86,13 +86,13 @@ from_none d rest = Range (pos 0 +ℤ pos 0) (d -ℤ pos 0) ∷ rest
 
 spans_are_whole : (scene : Scene) (es : List Control) (ds : List ℤ) → numbers scene es ≡ ds
     → all_positive ds ≡ true
-    → narrowed scene (whole ds) (whole_coords es) ≡ Some (whole ds)
+    → narrowed scene (whole ds) (whole_of es) ≡ Some (whole ds)
 spans_are_whole scene es ds e h =
-    subst (λ z. narrowed scene (whole z) (whole_coords es) ≡ Some (whole z)) e
+    subst (λ z. narrowed scene (whole z) (whole_of es) ≡ Some (whole z)) e
     (go es (ap all_positive e ∙ h))
   where
     go : (es : List Control) → all_positive (numbers scene es) ≡ true
-        → narrowed scene (whole (numbers scene es)) (whole_coords es)
+        → narrowed scene (whole (numbers scene es)) (whole_of es)
         ≡ Some (whole (numbers scene es))
     go [] h = refl
     go (e ∷ es) h =
@@ -100,16 +100,16 @@ spans_are_whole scene es ds e h =
         let ds = numbers scene es in
         let q = and_parts (int_le (pos 1) d) (all_positive ds) h in
         ap (λ t. where_true t (option_map (from_none d)
-        (narrowed scene (whole ds) (whole_coords es)))) (all_of d q.0)
+        (narrowed scene (whole ds) (whole_of es)))) (all_of d q.0)
         ∙ ap (option_map (from_none d)) (go es q.1)
         ∙ ap (λ z. Some (Range (pos 0) z ∷ whole ds)) (less_none d)
 
 spans_are_plain : (es : List Control) → are_plain es ≡ true
-    → are_plain_coords (whole_coords es) ≡ true
+    → are_plain_coords (whole_of es) ≡ true
 spans_are_plain [] h = refl
 spans_are_plain (e ∷ es) h =
     let q = and_parts (is_plain e) (are_plain es) h in
-    ap (λ t. t && are_plain_coords (whole_coords es)) q.0 ∙ spans_are_plain es q.1
+    ap (λ t. t && are_plain_coords (whole_of es)) q.0 ∙ spans_are_plain es q.1
 
 nothing_held : (o : Option (List ℤ)) → held_at (λ at. Undefined) o ≡ Undefined
 nothing_held None = refl
@@ -307,7 +307,7 @@ module _ (world : World) (a : ℕ) (n e : Control) (x : Buffer) (rest : Block) (
         let same = plain_same e viewed.scene s.scene may.trees.plain (λ y h. refl) in
         let sizes = numbers_kept (λ y. false) viewed.scene s.scene (λ y h. refl) x.dims
         may.trees.plain_dims (none_in_all x.dims) in
-        let rest_of_it = narrowed viewed.scene (whole dims) (whole_coords x.dims) in
+        let rest_of_it = narrowed viewed.scene (whole dims) (whole_of x.dims) in
         ap (λ i. where_true (is_below i size) (option_map (λ l. Point (pos 0 +ℤ i) ∷ l) rest_of_it))
         same
         ∙ ap (λ t. where_true t (option_map (λ l. Point (pos 0 +ℤ point) ∷ l) rest_of_it))
@@ -333,7 +333,7 @@ module _ (world : World) (a : ℕ) (n e : Control) (x : Buffer) (rest : Block) (
           seen = part;
           name = updated_own big.scene.views x.binder.id (Some part);
           window = seen_there;
-          plain = ap (λ t. t && are_plain_coords (whole_coords x.dims)) may.trees.plain
+          plain = ap (λ t. t && are_plain_coords (whole_of x.dims)) may.trees.plain
               ∙ spans_are_plain x.dims may.trees.plain_dims;
           own = may.trees.once;
           root = made_elsewhere (has_binder rest a) refl;

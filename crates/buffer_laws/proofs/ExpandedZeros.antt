@@ -25,26 +25,26 @@ use Rattle.inplace_laws.specs.Along.{SameAlong, both_end, both_next, SameThere, 
 use Rattle.inplace_laws.specs.Along.{in_branches, in_turns}
 use Rattle.inplace_laws.specs.Windows as windows
 use Rattle.buffer_laws.specs.Expanded.{any_is_whole, is_whole, passes_whole, step_passes_whole}
-use Rattle.buffer_laws.specs.StageMem.{whole_coords}
+use Rattle.match_laws.specs.Names.{whole_of}
 
 zero_plus : (n : ℤ) → pos 0 +ℤ n ≡ n
 zero_plus n = omega (arith, ints)
 
-whole_span : (ds : List Control) (k : ℕ) → windows.nth_span (whole_coords ds) k ≡ k
+whole_span : (ds : List Control) (k : ℕ) → windows.nth_span (whole_of ds) k ≡ k
 whole_span [] k = refl
 whole_span (d ∷ ds) zero = refl
 whole_span (d ∷ ds) (suc k) = ap suc (whole_span ds k)
 
 module _ (scene : Scene) where
   zero_numbers : (ds js : List Control)
-      → numbers scene (windows.shifted (whole_coords ds) js) ≡ numbers scene js
+      → numbers scene (windows.shifted (whole_of ds) js) ≡ numbers scene js
   zero_numbers [] js = refl
   zero_numbers (d ∷ ds) [] = refl
   zero_numbers (d ∷ ds) (j ∷ js) =
       ap₂ ◌∷◌ (zero_plus (number scene j)) (zero_numbers ds js)
 
   zero_narrowed : (sides : List Side) (ds : List Control) (cs : List Coord)
-      → narrowed scene sides (windows.joined_coords (whole_coords ds) cs)
+      → narrowed scene sides (windows.joined_coords (whole_of ds) cs)
       ≡ narrowed scene sides cs
   zero_narrowed sides [] cs = refl
   zero_narrowed sides (d ∷ ds) [] = refl
@@ -60,7 +60,7 @@ module _ (scene : Scene) where
   zero_narrowed (Range lo n ∷ sides) (d ∷ ds) (Span c e ∷ cs) =
       ap₂ (λ i j. where_true (int_le (pos 0) i && int_lt i j && int_le j n)
       (option_map (λ rest. Range (lo +ℤ i) (j -ℤ i) ∷ rest)
-      (narrowed scene sides (windows.joined_coords (whole_coords ds) cs))))
+      (narrowed scene sides (windows.joined_coords (whole_of ds) cs))))
       (zero_plus (number scene c)) (zero_plus (number scene e))
       ∙ ap (λ o. where_true (int_le (pos 0) (number scene c)
       && int_lt (number scene c) (number scene e) && int_le (number scene e) n)
@@ -80,7 +80,7 @@ module _ (scene : Scene) where
 
 module _ (x : ℕ) (point : Control) (dims : List Control) where
   abbrev t : Argument
-  t = Window x (At point ∷ whole_coords dims)
+  t = Window x (At point ∷ whole_of dims)
 
   abbrev v : Argument
   v = Window x (At point ∷ [])
@@ -93,7 +93,7 @@ module _ (x : ℕ) (point : Control) (dims : List Control) where
   control (Field f) = refl
   control (StrideOf y k) = ap (StrideOf (windows.to_name x t y)) (go (y == x))
     where
-      go : (r : Bool) → windows.nth_span (cond r (At point ∷ whole_coords dims) []) k
+      go : (r : Bool) → windows.nth_span (cond r (At point ∷ whole_of dims) []) k
           ≡ windows.nth_span (cond r (At point ∷ []) []) k
       go true = ap suc (whole_span dims k)
       go false = refl
@@ -139,7 +139,7 @@ module _ (x : ℕ) (point : Control) (dims : List Control) where
         ∙ go (y == x)
       where
         go : (r : Bool) → numbers scene (windows.shifted
-            (cond r (At point ∷ whole_coords dims) []) (windows.in_controls x v is))
+            (cond r (At point ∷ whole_of dims) []) (windows.in_controls x v is))
             ≡ numbers scene (windows.shifted (cond r (At point ∷ []) [])
             (windows.in_controls x v is))
         go true = ap (λ ns. number scene point ∷ ns)
@@ -168,14 +168,14 @@ module _ (x : ℕ) (point : Control) (dims : List Control) where
         (windows.joined_coords (windows.coords_at x t y) cs)) (coords ds) ∙ go (y == x)
       where
         go : (r : Bool) → window scene (windows.to_name x t y) (windows.joined_coords
-            (cond r (At point ∷ whole_coords dims) []) (windows.in_coords x v ds))
+            (cond r (At point ∷ whole_of dims) []) (windows.in_coords x v ds))
             ≡ window scene (windows.to_name x t y) (windows.joined_coords
             (cond r (At point ∷ []) []) (windows.in_coords x v ds))
         go true = then_cong (scene.views (windows.to_name x t y))
-            (part_of (At point ∷ windows.joined_coords (whole_coords dims)
+            (part_of (At point ∷ windows.joined_coords (whole_of dims)
             (windows.in_coords x v ds))) (part_of (At point ∷ windows.in_coords x v ds)) (λ z.
             ap (option_map (λ sides. record { buffer = z.buffer; sides = sides }))
-            (point_narrowed scene point (windows.joined_coords (whole_coords dims)
+            (point_narrowed scene point (windows.joined_coords (whole_of dims)
             (windows.in_coords x v ds)) (windows.in_coords x v ds)
             (λ sides. zero_narrowed scene sides dims (windows.in_coords x v ds)) z.sides))
         go false = refl

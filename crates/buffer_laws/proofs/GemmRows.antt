@@ -8,7 +8,7 @@ use Rattle.exo_tree.specs.Tree.{Statement}
 use Rattle.buffer_laws.specs.Bound.{Top, TimesIn, bound, bound_cell}
 use Rattle.buffer_laws.specs.Buffers.{Buffer, allocation, in_memory}
 use Rattle.buffer_laws.specs.Expanded.{expanded}
-use Rattle.buffer_laws.specs.Lifted.{lifted_from_loop, loop_with, with_buffer_in}
+use Rattle.buffer_laws.specs.Lifted.{lifted_from_loop, with_buffer_in}
 use Rattle.buffer_laws.specs.MadeIndices.{made_simpler}
 use Rattle.buffer_laws.specs.Simplified.{IsSimplifier}
 use Rattle.buffer_laws.specs.StageAccum.{sums_of}
@@ -16,6 +16,7 @@ use Rattle.buffer_laws.specs.StageLaws.{staging_of}
 use Rattle.buffer_laws.specs.StageMem.{staged_block}
 use Rattle.buffer_laws.proofs.MadeIndices.{made_simpler_law}
 use Rattle.buffer_laws.proofs.StageMem.{named, sevens}
+use Rattle.place_laws.specs.Scope.UnrollLoop.{only_loop}
 
 it_is_a_simplifier : IsSimplifier made_simpler
 it_is_a_simplifier = made_simpler_law
@@ -128,7 +129,7 @@ lifted_text : lifted_from_loop (named 9 (105 ∷ 9 ∷ [])) (Lit (pos 0)) (Lit (
     ≡ next (allocation b_row) (loop 9 (Lit (pos 8)) with_row)
 lifted_text = refl
 
-lifted_from : loop_with (named 9 (105 ∷ 9 ∷ [])) (Lit (pos 0)) (Lit (pos 8))
+lifted_from : only_loop (named 9 (105 ∷ 9 ∷ [])) (Lit (pos 0)) (Lit (pos 8))
     (with_buffer_in end b_row with_row)
     ≡ loop 9 (Lit (pos 8)) (next (allocation b_row) with_row)
 lifted_from = refl

@@ -35,10 +35,11 @@ use Rattle.place_laws.proofs.OfScope.MayLeave.{top_has}
 use Rattle.place_laws.proofs.OfScope.Opened.{leaving_refines}
 use Rattle.place_laws.proofs.OfScope.Scopes.{run_names}
 use Rattle.buffer_laws.specs.Buffers.{Buffer, allocation, is_buffer}
-use Rattle.buffer_laws.specs.Lifted.{are_plain, loop_with, lifted_from_loop, with_buffer_in}
+use Rattle.buffer_laws.specs.Lifted.{are_plain, lifted_from_loop, with_buffer_in}
 use Rattle.buffer_laws.specs.Lifted.{LiftFromLoop, LiftLaw, LiftFromThen, LiftFromElse, LiftThenLaw}
 use Rattle.buffer_laws.specs.Lifted.{LiftElseLaw, branch_with, lifted_from_then, lifted_from_else}
 use Rattle.buffer_laws.proofs.Buffers.{shape_of, behind, is_behind, beside, updated_own}
+use Rattle.place_laws.specs.Scope.UnrollLoop.{only_loop}
 
 -- ---- numbers of dimensions
 
@@ -312,11 +313,11 @@ lift_from_loop world i lo hi before x after s callees may low high = record {
       let p = then_gives (step world (For i lo hi (with_buffer_in before x after)) s)
       (λ t. Some t) a e in
       let m = then_gives (step world (allocation x) s)
-      (run world (loop_with i lo hi (joined before after))) b f in
+      (run world (only_loop i lo hi (joined before after))) b f in
       let at = is_behind world x s m.0 m.1 in
       let q = then_gives (step world (For i lo hi (joined before after)) (behind x s))
       (λ t. Some t) b
-      (subst (λ z. run world (loop_with i lo hi (joined before after)) z ≡ Some b) (sym at) m.2) in
+      (subst (λ z. run world (only_loop i lo hi (joined before after)) z ≡ Some b) (sym at) m.2) in
       let same = ap₂ (λ n k. range n (count (k -ℤ n)))
       (number_same (is_buffer x) s (behind x s) (beside x s may.none) lo low)
       (number_same (is_buffer x) s (behind x s) (beside x s may.none) hi high) in
@@ -426,7 +427,7 @@ lift_from_else world c other before x after s callees may test unused =
 
 pub lift_law : LiftLaw
 lift_law kinds ps p c i lo hi before x after was leave unused plain kept made low high =
-    leaving_refines kinds ps c (loop_with i lo hi (with_buffer_in before x after))
+    leaving_refines kinds ps c (only_loop i lo hi (with_buffer_in before x after))
     (lifted_from_loop i lo hi before x after) p
     (record p { body = fill c (lifted_from_loop i lo hi before x after) }) (is_buffer x) was refl
     leave

@@ -1,7 +1,7 @@
 -- A part of an expression, stored in a buffer of one cell before it is used.
 use Rattle.std.specs.Prelude.{◌≡◌, cond, ℕ, ℤ, Bool, false, List, [], Some}
 use Rattle.exo_tree.specs.Tree.{Cell, I32, Control, Datum, Const, Read, Negated, Relu, Plus}
-use Rattle.exo_tree.specs.Tree.{Minus, Times, Select, Statement, Assign, Reduce, Block, end, next}
+use Rattle.exo_tree.specs.Tree.{Minus, Times, Select, Statement, Assign, Reduce, Block, next}
 use Rattle.exo_tree.specs.Tree.{Kind, Procedure}
 use Rattle.exo_tree.specs.Context.{Context, fill}
 use Rattle.exo_meaning.specs.Value.{Value, wrap}
@@ -16,6 +16,7 @@ use Rattle.meaning_laws.specs.Sound.{IsSound}
 use Rattle.place_laws.specs.Scope.Opened.{MayLeave}
 use Rattle.place_laws.specs.Scope.Scopes.{HasNone}
 use Rattle.buffer_laws.specs.Buffers.{Buffer, allocation, is_buffer}
+use Rattle.place_laws.specs.Order.Statements.{one}
 
 -- ---- expressions with a hole
 
@@ -51,25 +52,16 @@ filled (InFourth a b c h) e = Select a b c (filled h e)
 abbrev pub stores : Bool → ℕ → List Control → Datum → Statement
 stores reduces y is e = cond reduces (Reduce y is e) (Assign y is e)
 
-abbrev pub only_statement : Statement → Block
-only_statement a = next a end
-
 -- the cell type of a single read, else 32 bits
 abbrev pub bound_cell : (ℕ → Cell) → Datum → Cell
-bound_cell cells (Const n) = I32
 bound_cell cells (Read y is) = cells y
-bound_cell cells (Negated a) = I32
-bound_cell cells (Relu a) = I32
-bound_cell cells (Plus a b) = I32
-bound_cell cells (Minus a b) = I32
-bound_cell cells (Times a b) = I32
-bound_cell cells (Select a b c d) = I32
+bound_cell cells _ = I32
 
 -- x : T; x = e; and x in the place of e
 abbrev pub bound : Buffer → Bool → ℕ → List Control → Hole → Datum → Block
 bound x reduces y is h e =
     next (allocation x) (next (Assign x.binder.id [] e)
-    (only_statement (stores reduces y is (filled h (Read x.binder.id [])))))
+    (one (stores reduces y is (filled h (Read x.binder.id [])))))
 
 -- ---- values that fit
 
@@ -110,7 +102,7 @@ BindLaw =
     (world : World) (x : Buffer) (reduces : Bool) (y : ℕ) (is : List Control) (h : Hole)
     (e : Datum) (s : State)
     → MayBind x reduces y is h e s
-    → MayReplace world (is_buffer x) (only_statement (stores reduces y is (filled h e)))
+    → MayReplace world (is_buffer x) (one (stores reduces y is (filled h e)))
     (bound x reduces y is h e) s
 
 -- and at a place of a procedure
@@ -119,7 +111,7 @@ BindRefines =
     (kinds : ℕ → Kind) (ps : List Procedure) (p : Procedure) (c : Context) (x : Buffer)
     (reduces : Bool) (y : ℕ) (is : List Control) (h : Hole) (e : Datum)
     → let world = unit_world kinds ps in
-    let old = only_statement (stores reduces y is (filled h e)) in
+    let old = one (stores reduces y is (filled h e)) in
     p.body ≡ fill c old
     → MayLeave p c (is_buffer x)
     → x.dims ≡ []

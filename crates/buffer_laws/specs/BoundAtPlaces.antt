@@ -11,9 +11,10 @@ use Rattle.exo_meaning.specs.Unseen.{in_statement as mentions}
 use Rattle.meaning_laws.specs.Context.{ComesTo}
 use Rattle.meaning_laws.specs.Sorted.{MayRun, scope_at}
 use Rattle.place_laws.specs.Scope.Opened.{MayLeave}
-use Rattle.buffer_laws.specs.Bound.{Hole, filled, stores, only_statement, bound, bound_cell}
+use Rattle.buffer_laws.specs.Bound.{Hole, filled, stores, bound, bound_cell}
 use Rattle.buffer_laws.specs.Bound.{IsShort}
 use Rattle.buffer_laws.specs.Buffers.{Buffer, is_buffer}
+use Rattle.place_laws.specs.Order.Statements.{one}
 
 abbrev pub IsBufferIn : Scope → ℕ → Cell → Type 0
 IsBufferIn scope y cell =
@@ -45,7 +46,7 @@ BindAtPlace =
     (fields : List ConfigField) (memories : ℕ) (ps : List Procedure) (p : Procedure) (c : Context)
     (cells : ℕ → Cell) (x : Buffer) (reduces : Bool) (y : ℕ) (is : List Control) (h : Hole)
     (e : Datum)
-    → let old = only_statement (stores reduces y is (filled h e)) in
+    → let old = one (stores reduces y is (filled h e)) in
     MayRun fields memories ps p
     → p.body ≡ fill c old
     → MayLeave p c (is_buffer x)

@@ -1,7 +1,7 @@
 -- Allocations: another memory for one, and one that is not used taken away.
 use Rattle.std.specs.Prelude.{◌≡◌, ◌==◌, ℕ, Bool, false, List, [], Option, Some, None}
-use Rattle.exo_tree.specs.Tree.{Binder, Cell, Kind, Control, Statement, Assign, Reduce, Config}
-use Rattle.exo_tree.specs.Tree.{Pass, If, For, Alloc, View, Call, Block, end, next, Procedure}
+use Rattle.exo_tree.specs.Tree.{Binder, Cell, Kind, Control, Statement}
+use Rattle.exo_tree.specs.Tree.{Alloc, Call, Block, end, next, Procedure}
 use Rattle.exo_tree.specs.Context.{Context, fill, rest_of}
 use Rattle.exo_meaning.specs.Run.{World, unit_world}
 use Rattle.exo_meaning.specs.Calls.{Callee}
@@ -27,16 +27,9 @@ is_buffer x y = y == x.binder.id
 
 -- the shape of both steps: the statement is an allocation
 abbrev pub buffer_of : Statement → Option Buffer
-buffer_of (Assign y is e) = None
-buffer_of (Reduce y is e) = None
-buffer_of (Config f g) = None
-buffer_of Pass = None
-buffer_of (If c a b) = None
-buffer_of (For i lo hi b) = None
 buffer_of (Alloc x cell dims memory) =
     Some (record { binder = x; cell = cell; dims = dims; memory = memory })
-buffer_of (View w y coords) = None
-buffer_of (Call k args) = None
+buffer_of _ = None
 
 -- ---- another memory
 

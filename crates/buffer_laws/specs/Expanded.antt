@@ -25,7 +25,7 @@ use Rattle.buffer_laws.specs.Staging.Stage.{AreAlike}
 use Rattle.buffer_laws.specs.Buffers.{Buffer, allocation, is_buffer}
 use Rattle.buffer_laws.specs.Lifted.{are_plain}
 use Rattle.buffer_laws.specs.Simplified.{IsSimplifier, simplified}
-use Rattle.buffer_laws.specs.StageMem.{whole_coords}
+use Rattle.match_laws.specs.Names.{whole_of}
 
 abbrev pub expanded_buffer : Control → Buffer → Buffer
 expanded_buffer n x = record x { dims = n ∷ x.dims }
@@ -74,7 +74,7 @@ may_expand x rest = (length x.dims == 0) || not (passes_whole x.binder.id rest)
 
 -- the part of buffer a at e, of x's extents
 abbrev pub part_coords : Control → Buffer → List Coord
-part_coords e x = At e ∷ whole_coords x.dims
+part_coords e x = At e ∷ whole_of x.dims
 
 abbrev pub part_of : ℕ → Control → Buffer → Argument
 part_of a e x = Window a (part_coords e x)

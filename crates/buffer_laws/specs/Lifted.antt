@@ -1,6 +1,6 @@
 -- An allocation in a loop or branch, put before it.
 use Rattle.std.specs.Prelude.{◌≡◌, ◌==◌, ◌&&◌, ℕ, Bool, true, false, List, [], ◌∷◌}
-use Rattle.exo_tree.specs.Tree.{Binder, Control, Condition, If, For, Block, end, next, joined}
+use Rattle.exo_tree.specs.Tree.{Binder, Control, Condition, If, Block, end, next, joined}
 use Rattle.exo_tree.specs.Tree.{Kind, Procedure}
 use Rattle.exo_tree.specs.Context.{Context, fill}
 use Rattle.exo_meaning.specs.State.{State}
@@ -13,6 +13,7 @@ use Rattle.meaning_laws.specs.Substitute.{is_plain}
 use Rattle.place_laws.specs.Scope.Opened.{MayLeave}
 use Rattle.place_laws.specs.Scope.Scopes.{HasNone, top_binders}
 use Rattle.buffer_laws.specs.Buffers.{Buffer, allocation, is_buffer}
+use Rattle.place_laws.specs.Scope.UnrollLoop.{only_loop}
 
 abbrev pub are_plain : List Control → Bool
 are_plain [] = true
@@ -27,12 +28,9 @@ without_buffer_in before behind = joined before behind
 
 -- ---- out of a loop
 
-abbrev pub loop_with : Binder → Control → Control → Block → Block
-loop_with i lo hi b = next (For i lo hi b) end
-
 abbrev pub lifted_from_loop : Binder → Control → Control → Block → Buffer → Block → Block
 lifted_from_loop i lo hi before x behind =
-    next (allocation x) (loop_with i lo hi (without_buffer_in before behind))
+    next (allocation x) (only_loop i lo hi (without_buffer_in before behind))
 
 -- x is new, what stands before it does not mention it, and its dimensions have the numbers there
 -- that they have before the loop or branch, in which these names are changed
@@ -52,7 +50,7 @@ LiftFromLoop =
     → MayLift (λ y. y == i.id) before x s
     → in_control (is_buffer x) lo ≡ false
     → in_control (is_buffer x) hi ≡ false
-    → MayReplace world (is_buffer x) (loop_with i lo hi (with_buffer_in before x behind))
+    → MayReplace world (is_buffer x) (only_loop i lo hi (with_buffer_in before x behind))
     (lifted_from_loop i lo hi before x behind) s
 
 -- ---- out of a branch
@@ -99,7 +97,7 @@ LiftLaw =
     (kinds : ℕ → Kind) (ps : List Procedure) (p : Procedure) (c : Context) (i : Binder)
     (lo hi : Control) (before : Block) (x : Buffer) (behind : Block)
     → let world = unit_world kinds ps in
-    let old = loop_with i lo hi (with_buffer_in before x behind) in
+    let old = only_loop i lo hi (with_buffer_in before x behind) in
     let new = lifted_from_loop i lo hi before x behind in
     p.body ≡ fill c old
     → MayLeave p c (is_buffer x)

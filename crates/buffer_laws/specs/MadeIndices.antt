@@ -1,10 +1,11 @@
 -- The simplifier of the indices and dimensions that a step makes.
-use Rattle.std.specs.Prelude.{cond, true, false}
+use Rattle.std.specs.Prelude.{cond, true}
 use Rattle.exo_tree.specs.Tree.{Index, Control}
 use Rattle.affine_forms.specs.Atoms.{Variable, EntryField, OpaqueStride, only}
-use Rattle.affine_forms.specs.Forms.{Reading, Allowed, is_affine}
+use Rattle.affine_forms.specs.Forms.{Reading, is_affine}
 use Rattle.match_laws.specs.Simplify.Simplified.{simplified}
 use Rattle.buffer_laws.specs.Simplified.{IsSimplifier}
+use Rattle.affine_places.specs.Roots.{variables}
 
 -- each variable, field and stride is read as itself
 abbrev pub as_themselves : Reading
@@ -16,12 +17,9 @@ as_themselves = record {
   stride_fits = λ x k. true;
 }
 
-abbrev pub variables_alone : Allowed
-variables_alone = record { variable = λ x. true; field = λ f. false; stride = λ x k. false }
-
 -- an affine expression of variables is simplified, any other one stays
 abbrev pub made_simpler : Control → Control
-made_simpler e = cond (is_affine variables_alone e) (simplified as_themselves e) e
+made_simpler e = cond (is_affine variables e) (simplified as_themselves e) e
 
 -- the laws on staged blocks and on parts of larger buffers hold with it
 abbrev pub MadeSimplerLaw : Type 0

@@ -1,7 +1,7 @@
 -- A block on a buffer of its own for a window: what is made, what is asked, and when it is refused.
 use Rattle.std.specs.Prelude.{◌==◌, ◌+◌, ◌&&◌, not, cond, ℕ, zero, suc, pos, Bool, true}
 use Rattle.std.specs.Prelude.{false, List, [], ◌∷◌, ◌++◌, length, codes, decimal}
-use Rattle.exo_tree.specs.Tree.{Cell, Control, Lit, Condition, Lt, Le, Eq, Coord, At}
+use Rattle.exo_tree.specs.Tree.{Cell, Control, Condition, Lt, Le, Eq, Coord, At}
 use Rattle.exo_tree.specs.Tree.{Span, Datum, Const, Read, Negated, Relu, Plus, Minus, Times, Select}
 use Rattle.exo_tree.specs.Tree.{Argument, ControlArg, ConditionArg, Whole, Window, Statement}
 use Rattle.exo_tree.specs.Tree.{Assign}
@@ -19,6 +19,7 @@ use Rattle.buffer_laws.specs.Staging.Stores.{spans, variables}
 use Rattle.buffer_laws.specs.Staging.Converted.{converted}
 use Rattle.buffer_laws.specs.Buffers.{Buffer, allocation}
 use Rattle.buffer_laws.specs.Simplified.{all_simpler, simplified}
+use Rattle.match_laws.specs.Names.{whole_of}
 
 -- the window of x at these coordinates, and the new buffer's name
 pub record Staging : Type 0 where
@@ -103,11 +104,6 @@ asked_of_coords (At u ∷ cs) (Span s t ∷ ds) = asked_of_coords cs ds
 asked_of_coords (Span u v ∷ cs) (At e ∷ ds) = Le u e ∷ Lt e v ∷ asked_of_coords cs ds
 asked_of_coords (Span u v ∷ cs) (Span s t ∷ ds) = Le u s ∷ Le t v ∷ asked_of_coords cs ds
 
--- a whole x stands for all its dimensions
-abbrev pub whole_coords : List Control → List Coord
-whole_coords [] = []
-whole_coords (d ∷ ds) = Span (Lit (pos 0)) d ∷ whole_coords ds
-
 -- no span of an access stands under a point of the window
 abbrev pub has_span_at_point : List Coord → List Coord → Bool
 has_span_at_point [] ds = false
@@ -133,7 +129,7 @@ module _ (x : ℕ) (dims : List Control) (coords : List Coord) where
   asked_of_arguments (ControlArg e ∷ gs) = asked_of_arguments gs
   asked_of_arguments (ConditionArg c ∷ gs) = asked_of_arguments gs
   asked_of_arguments (Whole y ∷ gs) =
-      cond (y == x) (asked_of_coords coords (whole_coords dims)) [] ++ asked_of_arguments gs
+      cond (y == x) (asked_of_coords coords (whole_of dims)) [] ++ asked_of_arguments gs
   asked_of_arguments (Window y ds ∷ gs) =
       cond (y == x) (asked_of_coords coords ds) [] ++ asked_of_arguments gs
 

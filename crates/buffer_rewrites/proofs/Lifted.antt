@@ -1,6 +1,5 @@
 -- An allocation of a block, what stands round it, and where statements go.
 use Rattle.std.proofs.Common.{◌≡◌, ℕ, zero, suc, ◌+◌, ◌-◌, ◌<◌, true, List, [], ◌∷◌, ◌++◌, length}
-use Rattle.proc_laws.specs.Expression.Passes.{or_one_pass}
 use Rattle.std.proofs.Common.{take, drop, Option, Some, None, refl, sym, ap, ap₂, ◌∙◌, arith}
 use Rattle.std.proofs.Common.{add-one, length-drop}
 use Rattle.std.proofs.lemmas.List.{length-take-le}
@@ -9,7 +8,7 @@ use Rattle.exo_tree.specs.Tree.{Statement, Block, end, next, joined, block, stat
 use Rattle.exo_tree.specs.Places.{Branch, parted}
 use Rattle.exo_tree.proofs.Edits.{range_to_end}
 use Rattle.cursor_forward.specs.Shifts.{Shift, alone, range, at_index}
-use Rattle.tree_edits.specs.Made.Passes.{pass_for}
+use Rattle.tree_edits.specs.Made.Passes.{pass_for, or_one_pass}
 use Rattle.step_targets.proofs.Made.{joined_blocks, statements_of}
 use Rattle.buffer_laws.specs.Buffers.{Buffer, buffer_of, allocation, only_buffer}
 use Rattle.alloc_laws.specs.Lifting.{Inner, Lifting, lifting_at}

@@ -9,7 +9,7 @@ use Rattle.exo_tree.specs.Places.{Path, Opened, opened}
 use Rattle.exo_meaning.specs.Units.{Scope}
 use Rattle.cursor_forward.specs.Causes.{Cause, WrongShape}
 use Rattle.buffer_laws.specs.Buffers.{only_buffer}
-use Rattle.buffer_laws.specs.Bound.{stores, only_statement, bound_cell}
+use Rattle.buffer_laws.specs.Bound.{stores, bound_cell}
 use Rattle.alloc_laws.specs.Bind.Binding.{Form, Part, cells_in, part_found, sought, store_of}
 use Rattle.alloc_laws.specs.Bind.Binding.{storing, one_cell, bound_store}
 use Rattle.step_rules.specs.Rule.{Got, Not, Target, Piece}
@@ -18,12 +18,13 @@ use Rattle.step_driver.specs.Needs.Outcomes.{RefusedBy}
 use Rattle.step_driver.specs.Spots.{or_nothing, spot_at}
 use Rattle.step_targets.proofs.Made.{joined_blocks}
 use Rattle.buffer_rewrites.specs.PlainTaken.{Parted, parted_by, Storing, storing_in, with_part}
+use Rattle.place_laws.specs.Order.Statements.{one as alone}
 
 -- ---- what is made
 
 pub stored_behind : (head more all : List Statement) (a b : Statement) → more ≡ head ++ a ∷ []
     → all ≡ more ++ b ∷ []
-    → block all ≡ joined (block head) (next a (only_statement b))
+    → block all ≡ joined (block head) (next a (alone b))
 stored_behind head more all a b h k =
     ap block
     (k ∙ ap (λ (xs : List Statement). xs ++ b ∷ []) h ∙ append_assoc head (a ∷ []) (b ∷ []))
@@ -98,7 +99,7 @@ module _ (f : Form) (k : ℕ) (b : Block) (scope : Scope) (name : List ℕ) (x :
         → cell ≡ bound_cell (cells_in scope) p.part
         → head ≡ only_buffer (one_cell cell name x)
         → made ≡ joined head (next (Assign x [] p.part)
-        (only_statement (stores w.reduces w.target w.indices p.whole)))
+        (alone (stores w.reduces w.target w.indices p.whole)))
         → tried (storing f k b) (bound_store scope name x) ≡ Got made
     bound_parts p cell head made h c d m = asked ∙ by found h
       where
@@ -121,7 +122,7 @@ module _ (f : Form) (k : ℕ) (b : Block) (scope : Scope) (name : List ℕ) (x :
             d ∙ ap (λ (t : Cell). only_buffer (one_cell t name x)) type in
             ap Got (sym (m
             ∙ (λ i. joined (front i) (next (Assign x [] (sym same i).part)
-            (only_statement (stores w.reduces w.target w.indices (sym same i).whole))))))
+            (alone (stores w.reduces w.target w.indices (sym same i).whole))))))
 
 -- ---- the piece
 

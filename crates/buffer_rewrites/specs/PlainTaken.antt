@@ -1,7 +1,6 @@
 -- The plain forms of an assignment or a reduction, and of an expression with a part taken out.
 use Rattle.std.specs.Prelude.{ℕ, Bool, true, false, List, [], Option, Some, None, option_map}
-use Rattle.exo_tree.specs.Tree.{Control, Datum, Read, Statement, Assign, Reduce, Config, Pass, If}
-use Rattle.exo_tree.specs.Tree.{For, Alloc, View, Call}
+use Rattle.exo_tree.specs.Tree.{Control, Datum, Read, Statement, Assign, Reduce, For}
 use Rattle.exo_tree.specs.PlainDatum.{datum}
 use Rattle.buffer_laws.specs.Bound.{filled}
 use Rattle.alloc_laws.specs.Bind.Binding.{Form, Part, Store, sought, part_found}
@@ -30,13 +29,7 @@ abbrev pub storing_in : Statement → Option Storing
 storing_in (Assign y is e) =
     Some (record { reduces = false; target = y; indices = is; right = e })
 storing_in (Reduce y is e) = Some (record { reduces = true; target = y; indices = is; right = e })
-storing_in (Config f a) = None
-storing_in Pass = None
-storing_in (If c a b) = None
-storing_in (For i lo hi b) = None
-storing_in (Alloc x cell dims memory) = None
-storing_in (View w x coords) = None
-storing_in (Call k args) = None
+storing_in _ = None
 
 abbrev pub plain_storing : StoreAt → Storing
 plain_storing s = record {

@@ -8,10 +8,10 @@ ghost use Rattle.exo_tree.specs.PlainPlace.{branch_taken};
 ghost use Rattle.exo_tree.specs.PlainStatement.{statement};
 ghost use Rattle.cursor_forward.specs.Shifts as shifts;
 ghost use Rattle.alloc_laws.specs.Lifting as plain;
-ghost use Rattle.proc_laws.specs.Expression.Passes.{or_one_pass};
 ghost use Rattle.step_driver.specs.PlainTarget.{target, plain_piece};
 ghost use Rattle.step_driver.specs.Spots.{spot_at};
 ghost use Rattle.buffer_rewrites.specs.PlainInner.{plain_inner, plain_lifting};
+ghost use Rattle.tree_edits.specs.Made.Passes.{or_one_pass};
 
 use crate::allocations::alloc_in;
 use crate::found::LiftingAt;

@@ -14,6 +14,7 @@ ghost use Rattle.step_rules.specs.Lawful.{scope_here};
 ghost use Rattle.step_rules.specs.Shapes.{alone_in};
 ghost use Rattle.exo_modes.specs.Sorts.{sort_seen};
 ghost use Rattle.buffer_rewrites.specs.PlainTaken.{plain_parted, plain_storing, storing_in};
+ghost use Rattle.place_laws.specs.Order.Statements.{one};
 
 use crate::parts::Parted;
 use exo_modes::Sort;
@@ -137,7 +138,7 @@ impl StoreAt<'_> {
         head: Block,
     ) -> Result<Block, AllocError>
         ensures { IfOk result (λ b. block b ≡ joined (block head) (next (Assign x.0 [] (plain_parted
-            parted.value).part) (bound.only_statement (bound.stores (plain_storing self.now).reduces
+            parted.value).part) (one (bound.stores (plain_storing self.now).reduces
             (plain_storing self.now).target (plain_storing self.now).indices (plain_parted
             parted.value).whole)))) }
     {

@@ -1,8 +1,8 @@
 -- Reading a template, character by character.
-use Rattle.std.proofs.Common.{◌≡◌, ◌<◌, ◌≤◌, ◌+◌, ◌/◌, ◌%◌, ℕ, ◌==◌, Bool, true, false, ◌&&◌, take, drop, if◌then◌else◌, List, [], ◌∷◌, ◌++◌, length, map, string_bytes, refl, sym, ap, ◌∙◌, subst, arith, append_assoc, append-nil}
+use Rattle.std.proofs.Common.{◌≡◌, ◌<◌, ◌≤◌, ◌+◌, ◌/◌, ◌%◌, ℕ, ◌==◌, Bool, true, false, if◌then◌else◌, List, [], ◌∷◌, ◌++◌, length, map, string_bytes, refl, sym, ap, ◌∙◌, subst, arith, append_assoc, append-nil}
 use Rattle.std.specs.Prelude.{⊤}
 use Rattle.std.proofs.lemmas.Bool.{eqb-true}
-use Rattle.exo_meaning.specs.Units.{is_text, Plain, Opened, Closed, InHole}
+use Rattle.exo_meaning.specs.Units.{Plain, Opened, Closed, InHole}
 use Rattle.c_lowering.specs.Made.Lowered.{Hole, Bytes, InBraces}
 use Rattle.c_lowering.specs.Made.LoweredUnit.{with_byte, holes_from}
 use Rattle.c_lowering.specs.PlainHole.{plain_hole}
@@ -203,15 +203,3 @@ name_ends old new parts from to first second none rest =
 pub one_more : (cs : List ℕ) (c : ℕ) (rest : List ℕ) → encodes (cs ++ c ∷ []) ++ rest ≡ encodes cs ++ (encode c ++ rest)
 one_more [] c rest = ap (λ l. l ++ rest) (append-nil (encode c))
 one_more (d ∷ cs) c rest = append_assoc (encode d) (encodes (cs ++ c ∷ [])) rest ∙ ap (λ l. encode d ++ l) (one_more cs c rest) ∙ sym (append_assoc (encode d) (encodes cs) (encode c ++ rest))
-
--- ---- names with an ending
-
-pub text_parts : (name text ending : List ℕ) → length name ≤ length text → is_text text (name ++ ending) ≡ (is_text (take (length name) text) name && is_text (drop (length name) text) ending)
-text_parts [] [] ending h = refl
-text_parts [] (c ∷ text) ending h = refl
-text_parts (n ∷ name) [] ending h = absurd (omega arith)
-text_parts (n ∷ name) (c ∷ text) ending h = ap (λ t. (c == n) && t) (text_parts name text ending (omega arith)) ∙ joined (c == n) (is_text (take (length name) text) name) (is_text (drop (length name) text) ending)
-  where
-    joined : (x y z : Bool) → (x && (y && z)) ≡ ((x && y) && z)
-    joined true y z = refl
-    joined false y z = refl

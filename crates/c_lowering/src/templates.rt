@@ -3,12 +3,12 @@ ghost use Rattle.std.specs.Prelude.{◌≡◌, ◌++◌, [], map, IfOk, OnOk, st
 ghost use Rattle.std.specs.Char.{encode_utf8};
 ghost use Rattle.exo_tree.specs.PlainParam.{parameter};
 ghost use Rattle.exo_meaning.specs.Units as units;
-ghost use Rattle.exo_meaning.specs.Units.{is_text, data_ending};
 ghost use Rattle.c_lowering.specs.Made.LoweredUnit.{holes_of};
 ghost use Rattle.c_lowering.specs.PlainHole.{plain_hole};
 ghost use Rattle.c_lowering.specs.Reader.{behind, all_parts, IsPast};
 ghost use Rattle.c_lowering.specs.declared.templates.Place.TheVariants as places;
 
+use exo_modes::{is_data_of, is_same};
 use exo_tree::{Param, ParamKind};
 use std::alloc::{AllocError, Global};
 
@@ -159,24 +159,6 @@ pub(crate) fn holes_of(alloc: Global, template: &str) -> Result<Vec<Hole>, Alloc
     let mut reader = read_all(alloc, template)?;
     put_text(alloc, &mut reader.parts, reader.text.as_str())?;
     Ok(reader.parts)
-}
-
-/// Whether two texts are the same.
-fn is_same(one: &[u8], other: &[u8]) -> bool
-    ensures { result ≡ is_text one.now other.now }
-{
-    one == other
-}
-
-/// Whether the text is the name with `_data` behind it.
-fn is_data_of(text: &[u8], name: &[u8]) -> bool
-    ensures { result ≡ is_text text.now (name.now ++ data_ending) }
-{
-    if text.len() < name.len() {
-        return false;
-    }
-    let (front, back) = text.split_at(name.len());
-    is_same(front, name) && is_same(back, b"_data")
 }
 
 /// Whether a name in braces means the parameter: `n` a control value, `x_data` a buffer.

@@ -14,14 +14,14 @@ ghost use Rattle.c_lowering.specs.Made.LoweredUnit.{in_arguments, in_block, in_s
 ghost use Rattle.c_lowering.specs.Made.LoweredUnit.{in_procedure};
 ghost use Rattle.c_lowering.specs.Made.LoweredUnit.{is_used_from, fields_from};
 
-use crate::field_marks::FieldMarks;
 use c_lowering::field_name;
+use config_state::FieldSet;
 use exo_modes::calls::Marks;
 use exo_tree::{Arg, Args, Block, Cond, Conds, Ctrl, Field, Name, Proc, Stmt, Unit};
 use std::alloc::{AllocError, Global};
 
 /// Marks the fields of an expression.
-fn mark_control(e: &Ctrl, marks: &mut FieldMarks)
+fn mark_control(e: &Ctrl, marks: &mut FieldSet)
     ensures { Marked (λ f. in_control f (control e.now)) marks.old marks.new }
 {
     match e {
@@ -36,7 +36,7 @@ fn mark_control(e: &Ctrl, marks: &mut FieldMarks)
 }
 
 /// Marks the fields of both sides of a comparison.
-fn mark_both(a: &Ctrl, b: &Ctrl, marks: &mut FieldMarks)
+fn mark_both(a: &Ctrl, b: &Ctrl, marks: &mut FieldSet)
     ensures { Marked (λ f. in_control f (control a.now) || in_control f (control b.now)) marks.old marks.new }
 {
     mark_control(a, marks);
@@ -44,7 +44,7 @@ fn mark_both(a: &Ctrl, b: &Ctrl, marks: &mut FieldMarks)
 }
 
 /// Marks the fields of a condition.
-fn mark_condition(c: &Cond, marks: &mut FieldMarks)
+fn mark_condition(c: &Cond, marks: &mut FieldSet)
     ensures { Marked (λ f. in_condition f (condition c.now)) marks.old marks.new }
 {
     match c {
@@ -61,7 +61,7 @@ fn mark_condition(c: &Cond, marks: &mut FieldMarks)
 }
 
 /// Marks the fields of conditions.
-fn mark_conditions(cs: &Conds, marks: &mut FieldMarks)
+fn mark_conditions(cs: &Conds, marks: &mut FieldSet)
     ensures { Marked (λ f. in_conditions f cs.now) marks.old marks.new }
 {
     for c in cs.as_slice() {
@@ -70,7 +70,7 @@ fn mark_conditions(cs: &Conds, marks: &mut FieldMarks)
 }
 
 /// Marks the fields of an argument.
-fn mark_argument(a: &Arg, marks: &mut FieldMarks)
+fn mark_argument(a: &Arg, marks: &mut FieldSet)
     ensures { Marked (λ f. in_argument f (argument a.now)) marks.old marks.new }
 {
     match a {
@@ -81,7 +81,7 @@ fn mark_argument(a: &Arg, marks: &mut FieldMarks)
 }
 
 /// Marks the fields of arguments.
-fn mark_arguments(args: &Args, marks: &mut FieldMarks)
+fn mark_arguments(args: &Args, marks: &mut FieldSet)
     ensures { Marked (λ f. in_arguments f args.now) marks.old marks.new }
 {
     for a in args.as_slice() {
@@ -91,7 +91,7 @@ fn mark_arguments(args: &Args, marks: &mut FieldMarks)
 
 /// Marks the fields of a block.
 #[cycle(marked)]
-fn mark_block(b: &Block, marks: &mut FieldMarks)
+fn mark_block(b: &Block, marks: &mut FieldSet)
     ensures { Marked (λ f. in_block f (block b.now)) marks.old marks.new }
 {
     for k in 0..b.len() {
@@ -101,7 +101,7 @@ fn mark_block(b: &Block, marks: &mut FieldMarks)
 
 /// Marks the fields of a statement.
 #[cycle(marked)]
-fn mark_statement(s: &Stmt, marks: &mut FieldMarks)
+fn mark_statement(s: &Stmt, marks: &mut FieldSet)
     ensures { Marked (λ f. in_statement f (statement s.now)) marks.old marks.new }
 {
     match s {
@@ -121,7 +121,7 @@ fn mark_statement(s: &Stmt, marks: &mut FieldMarks)
 }
 
 /// Marks the fields that a procedure reads or writes.
-fn mark_procedure(p: &Proc, marks: &mut FieldMarks)
+fn mark_procedure(p: &Proc, marks: &mut FieldSet)
     ensures { Marked (λ f. in_procedure f (procedure p.now)) marks.old marks.new }
 {
     mark_conditions(&p.asserts, marks);
@@ -129,7 +129,7 @@ fn mark_procedure(p: &Proc, marks: &mut FieldMarks)
 }
 
 /// The same, where the procedure counts.
-fn mark_counted(p: &Proc, counted: bool, marks: &mut FieldMarks)
+fn mark_counted(p: &Proc, counted: bool, marks: &mut FieldSet)
     ensures { Marked (λ f. counted && in_procedure f (procedure p.now)) marks.old marks.new }
 {
     if counted {
@@ -138,12 +138,12 @@ fn mark_counted(p: &Proc, counted: bool, marks: &mut FieldMarks)
 }
 
 /// The fields that the counted procedures read or write.
-fn used_fields(alloc: Global, unit: &Unit, counted: &Marks) -> Result<FieldMarks, AllocError>
+fn used_fields(alloc: Global, unit: &Unit, counted: &Marks) -> Result<FieldSet, AllocError>
     ensures { IfOk result
         (λ s. Marked (λ f. is_used_from (contains counted.now) f 0 (program unit.now).procedures)
         (replicate (length unit.now.fields) false) s) }
 {
-    let mut marks = FieldMarks::empty(alloc, unit.fields.len())?;
+    let mut marks = FieldSet::empty(alloc, unit.fields.len())?;
     for (k, p) in unit.procs.as_slice().iter().enumerate() {
         mark_counted(p, counted.has(k), &mut marks);
     }
@@ -151,16 +151,12 @@ fn used_fields(alloc: Global, unit: &Unit, counted: &Marks) -> Result<FieldMarks
 }
 
 /// The C names of the marked fields of a list.
-fn marked_names(
-    alloc: Global,
-    marks: &FieldMarks,
-    fields: &[Field],
-) -> Result<Vec<Name>, AllocError>
+fn marked_names(alloc: Global, marks: &FieldSet, fields: &[Field]) -> Result<Vec<Name>, AllocError>
     ensures { IfOk result (λ v. v.items ≡ fields_from (contains marks.now) 0 (map config_field fields.now)) }
 {
     let mut names = Vec::new(alloc);
     for (k, field) in fields.iter().enumerate() {
-        if marks.has(k) {
+        if marks.contains(k) {
             let name = field_name(alloc, field)?;
             names.push(Name::new(alloc, name.as_str())?)?;
         }

@@ -2,7 +2,6 @@
 #![tactic(auto)]
 
 mod counted;
-mod field_marks;
 mod fields;
 mod found;
 mod functions;

@@ -2,8 +2,9 @@
 use Rattle.std.proofs.Common.{◌≡◌, ◌==◌, false, codes, refl, true≢false, ◌++◌, ℕ, zero, suc, ◌+◌, ◌<◌, ◌≤◌, List, [], ◌∷◌, length, drop, map, get_or, ap, sym, ◌∙◌, add-one, drop-cons, arith, subst}
 use Rattle.std.proofs.lemmas.List.{length-map, drop-map}
 use Rattle.c_tree.specs.CTree.{CStatement, cblock}
-use Rattle.c_tree.specs.CText.{line, or_else}
+use Rattle.c_tree.specs.CText.{or_else}
 use Rattle.c_tree.specs.Sizes.{nodes, nodes_of}
+use Rattle.text_show.specs.Layout.{line}
 
 -- a mapped list from an index on
 pub drop_of_map : {X Y : Type 0} (f : X → Y) (xs : List X) (k : ℕ) (d : X) → k < length xs → drop k (map f xs) ≡ f (get_or xs k d) ∷ drop (k + 1) (map f xs)

@@ -13,6 +13,7 @@ use Rattle.c_tree.specs.CTree.{FirstCell, CStatement, Store, AddTo, SetField, Em
 use Rattle.c_tree.specs.CTree.{Array, Malloc, Free, Bind, CallOf, Instruction, CBlock, stop, first}
 use Rattle.c_tree.specs.CTree.{Formal, Number64Param, ArrayParam, WindowParamOf, CFunction}
 use Rattle.c_tree.specs.CTree.{ReportLine, StructOf, CUnit}
+use Rattle.text_show.specs.Layout.{line, deeper}
 pub use Rattle.c_tree.specs.Names.Helpers.{Text, margin, helpers}
 
 -- in parentheses, with a word between
@@ -105,14 +106,6 @@ piece_text (Filled a) = actual_text a
 piece_text (FirstCell ref) = cell_text ref
 
 -- ---- statements
-
--- a line behind an indentation
-abbrev pub line : Text → Text → Text
-line indent t = indent ++ t ++ codes "\n"
-
--- four more spaces
-abbrev pub deeper : Text → Text
-deeper indent = indent ++ codes "    "
 
 abbrev pub allocation_text : Text → Name → Text → Text
 allocation_text t x n =

@@ -1,11 +1,12 @@
 //! The text of a file of C, appended piece by piece to one string.
 ghost use Rattle.std.specs.Prelude.{◌≡◌, ◌++◌, [], map, codes, IfOk, OnOk, string_bytes};
 ghost use Rattle.c_tree.specs.CTree.{cblock};
-ghost use Rattle.c_tree.specs.CText.{line, deeper, margin, each, or_word, or_else, head_text};
+ghost use Rattle.c_tree.specs.CText.{margin, each, or_word, or_else, head_text};
 ghost use Rattle.c_tree.specs.CText.{block_text, inner_text, formal_text, signature_text};
 ghost use Rattle.c_tree.specs.CText.{function_text, report_text, include_text, struct_text};
 ghost use Rattle.c_tree.specs.CText.{field_text, preamble_text, text_of};
 ghost use Rattle.c_tree.specs.Plain.{plain_statement, plain_struct, plain_param, plain_function, plain_line, plain_unit};
+ghost use Rattle.text_show.specs.Layout.{line, deeper};
 
 use crate::names::{put_helpers, put_margin};
 use crate::show::type_word;

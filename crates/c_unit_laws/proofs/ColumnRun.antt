@@ -19,9 +19,11 @@ use Rattle.c_unit_laws.specs.Follows.Grounds.{declared_in}
 use Rattle.c_unit_laws.specs.Follows.Units.{IsSameStart}
 use Rattle.c_unit_laws.proofs.OfFollows.Instance.{machine_of}
 use Rattle.c_unit_laws.specs.Instance.{filling, column_program, both_printed}
-use Rattle.c_unit_laws.specs.ColumnRun.{two_by_two, input, layout, machine, things, no_templates, ColumnsRun, PrintingsAreComputed}
+use Rattle.c_unit_laws.specs.ColumnRun.{two_by_two, input, machine, things, ColumnsRun, PrintingsAreComputed}
 use Rattle.c_unit_laws.proofs.Standing.{none_some, some_same}
 use Rattle.c_unit_laws.proofs.Listed.{no_entry}
+use Rattle.c_unit_laws.specs.Follows.Machine.Examples.{no_templates}
+use Rattle.c_unit_laws.specs.Follows.Instance.{layout}
 
 zero_fits : wrap I32 (pos 0) ≡ pos 0
 unfolding int_wrap

@@ -5,10 +5,10 @@ use Rattle.std.specs.Ordering.{int_eq}
 use Rattle.std.proofs.lemmas.Bool.{and_parts}
 use Rattle.std.proofs.lemmas.Int.{ints}
 use Rattle.exo_tree.specs.Tree.{Cell, Control, Lit, Var, Field, StrideOf, Neg, Add, Sub, Mul, Div, Mod, Datum, Const, Read, Negated, Relu, Plus, Minus, Times, Select, Coord, At, Span, Argument, ControlArg, ConditionArg, Whole, Window, Param, ParamKind, ControlParam, TensorParam, WindowParam, MemoryKind}
-use Rattle.exo_meaning.specs.Units.{has_type, is_memory}
+use Rattle.exo_meaning.specs.Units.{has_type, is_memory, is_literal}
 use Rattle.memory_kinds.specs.declared.error.KindError.{KindError}
 use Rattle.memory_kinds.specs.Homes.{Homes}
-use Rattle.memory_kinds.specs.Faults.{fault_where, or_first, is_literal, is_literal_of, are_literals, last_is_literal, is_full_span, last_is_full, has_lanes, takes, param_fault, alloc_fault, read_fault, write_fault, reduce_fault, view_fault, window_fault, in_memory, reads_fault, given_fault, argument_fault, arguments_fault, kind_fault, params_fault}
+use Rattle.memory_kinds.specs.Faults.{fault_where, or_first, is_literal_of, are_literals, last_is_literal, is_full_span, last_is_full, has_lanes, takes, param_fault, alloc_fault, read_fault, write_fault, reduce_fault, view_fault, window_fault, in_memory, reads_fault, given_fault, argument_fault, arguments_fault, kind_fault, params_fault}
 use Rattle.c_lowering.specs.Made.Lowered.{Memory, Naming}
 use Rattle.c_lowering.specs.Made.LoweredUnit.{memory_of}
 use Rattle.c_unit_laws.specs.Follows.Good.{EndsInSpan, EndsInLanes, AreLiterals}

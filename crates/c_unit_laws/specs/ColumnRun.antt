@@ -1,5 +1,6 @@
 -- A closed run of a file: a function hands a column of a tensor on to another one, which fills it.
-use Rattle.std.specs.Prelude.{◌≡◌, ◌==◌, ◌||◌, ℕ, ℤ, pos, true, false, if◌then◌else◌, List, [], ◌∷◌, map, Option, Some, None}
+use Rattle.std.specs.Prelude.{◌≡◌, ◌==◌, ◌||◌, ℤ, pos, true, if◌then◌else◌, List, [], ◌∷◌}
+use Rattle.std.specs.Prelude.{ℕ, false, map, Some, None}
 use Rattle.std.specs.Option.{IsSome}
 use Rattle.exo_tree.specs.Tree.{I32, Program}
 use Rattle.exo_meaning.specs.Value.{Undefined, Number}
@@ -8,15 +9,16 @@ use Rattle.exo_meaning.specs.State.{State}
 use Rattle.exo_meaning.specs.Run.{tensor, program_world}
 use Rattle.exo_meaning.specs.Inputs.{IsValid, run_procedure}
 use Rattle.c_unit_laws.specs.Follows.Machine.Machine.{Done, Thing, IsNumber, IsArray, Machine}
-use Rattle.c_unit_laws.specs.Follows.Machine.CRun.{Behaviour, run_file}
+use Rattle.c_unit_laws.specs.Follows.Machine.CRun.{run_file}
 use Rattle.c_lowering.specs.Made.LoweredUnit.{lowered}
 use Rattle.c_lowering.specs.Made.Examples.{printed, col, vector_program}
-use Rattle.c_unit_laws.specs.Follows.Simulation.{Layout}
 use Rattle.c_unit_laws.specs.Follows.Templates.{TemplatesDoTheirBodies}
 use Rattle.c_unit_laws.specs.Follows.Units.{IsSameStart}
 use Rattle.c_unit_laws.specs.Stores.{allocates_nothing}
 use Rattle.c_unit_laws.specs.Listings.{printings}
 use Rattle.c_unit_laws.specs.Instance.{filling, column_program, both_printed}
+use Rattle.c_unit_laws.specs.Follows.Machine.Examples.{no_templates}
+use Rattle.c_unit_laws.specs.Follows.Instance.{layout}
 
 abbrev pub two_by_two : List ℤ
 two_by_two = pos 2 ∷ pos 2 ∷ []
@@ -33,9 +35,6 @@ input = record {
   cells = λ b at. if b == 5 then Number (pos 0) else Undefined;
 }
 
-abbrev pub layout : Layout
-layout b = record { object = 0; offset = pos 0 }
-
 abbrev pub machine : Machine
 machine = record {
   setting = record {
@@ -50,9 +49,6 @@ machine = record {
 
 abbrev pub things : List Thing
 things = IsNumber (pos 2) ∷ IsNumber (pos 2) ∷ IsArray (layout 5) ∷ []
-
-abbrev pub no_templates : ℕ → Option Behaviour
-no_templates k = None
 
 -- The call meets what the law on files asks, and ends with fives in the last column alone.
 pub record ColumnsRun : Type 0 where

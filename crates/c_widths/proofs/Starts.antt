@@ -5,11 +5,12 @@ use Rattle.exo_tree.specs.Tree.{Size, Index, Truth, Stride, Param, ParamKind, Co
 use Rattle.exo_meaning.specs.Scene.{Scene}
 use Rattle.exo_meaning.specs.Inputs.{HasBounds, AreBounded}
 use Rattle.c_widths.specs.Widths.{most_of_param, most_of}
-use Rattle.c_widths.specs.Laws.{is_control, controls, StartLaw}
+use Rattle.c_widths.specs.Laws.{controls, StartLaw}
+use Rattle.exo_meaning.specs.Units.{is_control_param}
 
 -- ---- control parameters
 
-kind_within : (scene : Scene) (x : ℕ) (kind : ParamKind) → HasBounds scene x kind → is_control kind ≡ true → unsigned_abs (scene.control x) ≤ most_of_param kind
+kind_within : (scene : Scene) (x : ℕ) (kind : ParamKind) → HasBounds scene x kind → is_control_param kind ≡ true → unsigned_abs (scene.control x) ≤ most_of_param kind
 kind_within scene x (ControlParam Size) b h = size_within (scene.control x) b.0 b.1
   where
     size_within : (z : ℤ) → pos 1 ≤ℤ z → z ≤ℤ pos (2 ^ 31 - 1) → unsigned_abs z ≤ 2 ^ 31 - 1
@@ -37,7 +38,7 @@ controls_within : (scene : Scene) (ps : List Param) → AreBounded scene ps → 
 controls_within scene [] b x h = absurd (true≢false (sym h))
 controls_within scene (p ∷ ps) b x h = here (controls_within scene ps b.1 x) (x == p.binder.id) refl h
   where
-    here : (controls ps x ≡ true → unsigned_abs (scene.control x) ≤ most_of ps x) → (t : Bool) → (x == p.binder.id) ≡ t → (if t then is_control p.kind else controls ps x) ≡ true → unsigned_abs (scene.control x) ≤ (if t then most_of_param p.kind else most_of ps x)
+    here : (controls ps x ≡ true → unsigned_abs (scene.control x) ≤ most_of ps x) → (t : Bool) → (x == p.binder.id) ≡ t → (if t then is_control_param p.kind else controls ps x) ≡ true → unsigned_abs (scene.control x) ≤ (if t then most_of_param p.kind else most_of ps x)
     here later true e g = subst (λ y. unsigned_abs (scene.control y) ≤ most_of_param p.kind) (sym (eqb-true x p.binder.id e)) (kind_within scene p.binder.id p.kind b.0 g)
     here later false e g = later g
 

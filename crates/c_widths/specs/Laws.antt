@@ -4,8 +4,7 @@ use Rattle.std.specs.Prelude.{if◌then◌else◌, List, [], ◌∷◌, Option, 
 use Rattle.exo_tree.specs.Tree.{Control, Lit, Var, Field, StrideOf, Neg, Add, Sub, Mul, Div, Mod}
 use Rattle.exo_tree.specs.Tree.{Argument, ControlArg, ConditionArg, Whole, Window, Statement}
 use Rattle.exo_tree.specs.Tree.{Assign, Reduce, Config, Pass, If, For, Alloc, View, Call, Block}
-use Rattle.exo_tree.specs.Tree.{end, next, MemoryKind, Param, ParamKind, ControlParam, TensorParam}
-use Rattle.exo_tree.specs.Tree.{WindowParam, Procedure}
+use Rattle.exo_tree.specs.Tree.{end, next, MemoryKind, Param, Procedure}
 use Rattle.exo_meaning.specs.Scene.{Scene, Shape, updated, number, numbers, holds}
 use Rattle.exo_meaning.specs.State.{State, on_scene, with_control}
 use Rattle.exo_meaning.specs.Run.{World, product, turn, turns_of, run, step}
@@ -13,6 +12,7 @@ use Rattle.exo_meaning.specs.Inputs.{IsBetween, IsValid}
 use Rattle.exo_meaning.specs.Orders.{Each}
 use Rattle.c_widths.specs.Magnitude.{magnitude, is_narrow}
 use Rattle.c_widths.specs.Widths.{most_of, with_bounds, is_narrow_procedure}
+use Rattle.exo_meaning.specs.Units.{is_control_param}
 
 -- its variables are control names, and its divisors are at least 1
 abbrev pub is_over : (ℕ → Bool) → Control → Bool
@@ -53,15 +53,10 @@ NarrowLaw =
     → is_narrow most e ≡ true
     → unsigned_abs (number scene e) ≤ 2 ^ 62
 
-abbrev pub is_control : ParamKind → Bool
-is_control (ControlParam kind) = true
-is_control (TensorParam cell dims memory) = false
-is_control (WindowParam cell dims memory) = false
-
 -- the control parameters
 abbrev pub controls : List Param → ℕ → Bool
 controls [] x = false
-controls (p ∷ ps) x = if x == p.binder.id then is_control p.kind else controls ps x
+controls (p ∷ ps) x = if x == p.binder.id then is_control_param p.kind else controls ps x
 
 -- the names of a valid input are within the bounds of parameters
 abbrev pub StartLaw : Type 0

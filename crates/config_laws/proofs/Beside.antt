@@ -14,8 +14,9 @@ use Rattle.place_laws.proofs.OfScope.PlacesCompose.{places_compose}
 use Rattle.place_laws.proofs.OfScope.SameHole.{same_hole}
 use Rattle.place_laws.proofs.OfScope.SamePlace.{same_place, with_first}
 use Rattle.place_laws.proofs.OfScope.Within.{holes_compose}
-use Rattle.config_laws.specs.FieldRule.{further, is_live, is_end}
+use Rattle.config_laws.specs.FieldRule.{further, is_live}
 use Rattle.config_laws.specs.Beside.{IsLiveAt, LiveBeside}
+use Rattle.exo_meaning.specs.Units.{is_empty}
 
 module _ (calls : ℕ → ℕ → Bool → Bool) (f : ℕ) where
   joined_live : (b rest : Block) (out : Bool)
@@ -85,7 +86,7 @@ all_parted count path body o e =
 
 abbrev none_first : Option (Block × Block) → Bool
 none_first None = false
-none_first (Some p) = is_end p.0
+none_first (Some p) = is_empty p.0
 
 past_all : (n : ℕ) (b : Block) → parted n b ≡ Some (b, end)
     → opened_in 0 (record { branch = Main; index = n } ∷ []) b

@@ -30,7 +30,7 @@ use Rattle.config_laws.proofs.OfLive.LiveFits.{live_fits}
 use Rattle.config_laws.specs.Surely.{surely_behind, unit_surely}
 use Rattle.config_laws.specs.Exits.{by_exit}
 use Rattle.config_laws.specs.FieldRule.{is_listed, not_again}
-use Rattle.config_laws.specs.BindConfig.{reads_any, asks_any, Bound, bound_here, is_control}
+use Rattle.config_laws.specs.BindConfig.{reads_any, asks_any, Bound, bound_here}
 use Rattle.config_laws.specs.BindConfig.{behind_argument, bound_in, write_and_call}
 use Rattle.config_laws.specs.Holes.{with_block, BoundRefines}
 use Rattle.config_laws.proofs.Exits.{blocks_go_by_exit, holes_go_by_exit, units_go_by_exit}
@@ -38,6 +38,7 @@ use Rattle.config_laws.proofs.Exits.{in_order}
 use Rattle.config_laws.specs.AtEnd.{lives_at_end}
 use Rattle.config_laws.proofs.AtEnd.{at_end, not_live}
 use Rattle.config_laws.proofs.Holes.{write_gives, not_seen}
+use Rattle.exo_meaning.specs.Units.{is_control_param}
 
 -- ---- what reads no field
 
@@ -178,7 +179,7 @@ module _ (f : ℕ) (n : ℤ) (scene : Scene) where
   alike name [] args b e = absurd (none_some e)
   alike name (p ∷ ps) [] b e = absurd (none_some e)
   alike name (p ∷ ps) (a ∷ rest) b e =
-      go (bytes_eq p.binder.name name) (is_control p.kind) e (λ d. alike name ps rest d)
+      go (bytes_eq p.binder.name name) (is_control_param p.kind) e (λ d. alike name ps rest d)
     where
       go : (same control : Bool)
           → (if same then (if control then bound_here f a rest else None)

@@ -19,12 +19,13 @@ use Rattle.meaning_laws.proofs.Replace.{where_gives}
 use Rattle.meaning_laws.proofs.UnitFields.{unit_forgets}
 use Rattle.config_laws.proofs.OfLive.LiveFits.{live_fits}
 use Rattle.config_laws.specs.Surely.{surely_behind, unit_surely}
-use Rattle.config_laws.specs.FieldRule.{or_pass, is_first, is_end, is_listed, not_again}
+use Rattle.config_laws.specs.FieldRule.{or_pass, is_first, is_listed, not_again}
 use Rattle.config_laws.specs.WriteConfig.{written}
 use Rattle.config_laws.specs.Holes.{with_block, WrittenRefines, LeftOutRefines}
 use Rattle.config_laws.proofs.Exits.{units_go_by_exit}
 use Rattle.config_laws.specs.AtEnd.{lives_at_end}
 use Rattle.config_laws.proofs.AtEnd.{at_end, listed_stay_dead}
+use Rattle.exo_meaning.specs.Units.{is_empty}
 
 -- ---- what a write gives
 
@@ -131,4 +132,4 @@ left_out_refines fields memories ps p c f e was fine dead =
     (unit_forgets (kinds_of fields) ps) was refl fine (at_end (again ps f old c) (f ∷ []))
     (λ s u good come g fit agree a b i j. writes_less f (lives ps f old c)
     (dead_behind ps f old c dead) world e (refield g u) a b i
-    (sym (left_out world (refield g u) (is_first c) (is_end (rest_of c))) ∙ j))
+    (sym (left_out world (refield g u) (is_first c) (is_empty (rest_of c))) ∙ j))

@@ -13,7 +13,7 @@ use Rattle.exo_tree.specs.Places.{Step, Path, Opened, opened, statement_at, firs
 use Rattle.exo_meaning.specs.Calls.{Callee}
 use Rattle.exo_meaning.specs.Run.{unit_world, kinds_of}
 use Rattle.exo_meaning.specs.Inputs.{Refines}
-use Rattle.exo_meaning.specs.Units.{scope_of, is_call, field_kind}
+use Rattle.exo_meaning.specs.Units.{scope_of, is_call, field_kind, is_empty}
 use Rattle.meaning_laws.specs.Live.{live, live_behind}
 use Rattle.meaning_laws.specs.Sorted.{MayRun, scope_at}
 use Rattle.meaning_laws.specs.UnitFields.{unit_live}
@@ -28,8 +28,7 @@ use Rattle.config_laws.specs.Live.CallVersion.{called}
 use Rattle.config_laws.specs.Surely.{surely_writes, surely_behind, unit_surely}
 use Rattle.config_laws.specs.FieldRule.{Got, Not, WrongShape, ConfigLive, NotDescendant}
 use Rattle.config_laws.specs.FieldRule.{Piece, Side, Before, Behind, FieldRule, Proposed}
-use Rattle.config_laws.specs.FieldRule.{with_fields}
-use Rattle.config_laws.specs.FieldRule.{or_pass, is_first, is_end, is_live, any_live, gap}
+use Rattle.config_laws.specs.FieldRule.{with_fields, or_pass, is_first, is_live, any_live, gap}
 use Rattle.config_laws.specs.FieldRule.{surely_from, not_again, fields_at_end, proposed}
 use Rattle.config_laws.specs.WriteConfig.{written, gap_at, write_config}
 use Rattle.config_laws.specs.Holes.{with_block}
@@ -245,7 +244,7 @@ module _ (ps : List Procedure) (p : Procedure) (at : Path) (o : Opened)
       (put_back 1 at p.body o end there)
 
   before_it : Same at Before
-  before_it = where_nothing (is_first o.around) (is_end (rest_of o.around))
+  before_it = where_nothing (is_first o.around) (is_empty (rest_of o.around))
 
   where_left : (rest : Block) → Same (where_it_was at rest).0 (where_it_was at rest).1
   where_left (next a b) = before_it

@@ -6,13 +6,13 @@ use Rattle.exo_tree.specs.Tree.{Control, Lit, Var, Field, StrideOf, Neg, Add, Su
 use Rattle.exo_tree.specs.Tree.{Condition, True, False, Flag, FieldFlag, Lt, Le, Gt, Ge, Eq, And}
 use Rattle.exo_tree.specs.Tree.{Or}
 use Rattle.exo_tree.specs.Tree.{Argument, ControlArg, ConditionArg, Whole, Window}
-use Rattle.exo_tree.specs.Tree.{Statement, Config, Call, Block, end, next, Procedure}
-use Rattle.exo_tree.specs.Tree.{Param, ParamKind, ControlParam, TensorParam, WindowParam}
+use Rattle.exo_tree.specs.Tree.{Statement, Config, Call, Block, end, next, Procedure, Param}
 use Rattle.exo_tree.specs.Places.{Path, Opened, statement_at, first_of}
 use Rattle.meaning_laws.specs.Live.{live, live_behind}
 use Rattle.meaning_laws.specs.UnitFields.{unit_live}
 use Rattle.config_laws.specs.FieldRule.{FieldRule, Tried, Got, Not, WrongShape, ConfigLive, Piece}
 use Rattle.config_laws.specs.FieldRule.{Behind, refused_if}
+use Rattle.exo_meaning.specs.Units.{is_control_param}
 
 -- ---- arguments that read a field
 
@@ -59,11 +59,6 @@ bound_here f (ConditionArg c) rest =
 bound_here f (Whole x) rest = None
 bound_here f (Window x coords) rest = None
 
-abbrev pub is_control : ParamKind → Bool
-is_control (ControlParam kind) = true
-is_control (TensorParam cell dims memory) = false
-is_control (WindowParam cell dims memory) = false
-
 abbrev pub behind_argument : Argument → Option Bound → Option Bound
 behind_argument a None = None
 behind_argument a (Some b) = Some (record { value = b.value; args = a ∷ b.args })
@@ -74,7 +69,7 @@ bound_in f x [] args = None
 bound_in f x (p ∷ ps) [] = None
 bound_in f x (p ∷ ps) (a ∷ args) =
     if bytes_eq p.binder.name x
-    then (if is_control p.kind then bound_here f a args else None)
+    then (if is_control_param p.kind then bound_here f a args else None)
     else behind_argument a (bound_in f x ps args)
 
 -- ---- the rule

@@ -8,6 +8,7 @@ use Rattle.meaning_laws.specs.Live.{live_behind}
 use Rattle.meaning_laws.specs.UnitFields.{unit_live}
 use Rattle.place_laws.specs.Scope.PlacesCompose.{onward}
 use Rattle.config_laws.specs.Surely.{surely_behind, unit_surely}
+use Rattle.exo_meaning.specs.Units.{is_empty}
 
 -- why it refuses; that the result keeps the rules of the language is asked of every rewrite alike
 pub data Cause : Type 0 where
@@ -52,13 +53,9 @@ is_first (InLoop i lo hi c rest) = is_first c
 is_first (InThen t c other rest) = is_first c
 is_first (InElse t other c rest) = is_first c
 
-abbrev pub is_end : Block → Bool
-is_end end = true
-is_end (next a b) = false
-
 -- a block that would be left empty holds a `pass`
 abbrev pub or_pass : Context → Block → Block
-or_pass c end = if is_first c then (if is_end (rest_of c) then next Pass end else end) else end
+or_pass c end = if is_first c then (if is_empty (rest_of c) then next Pass end else end) else end
 or_pass c (next a b) = next a b
 
 pub record Proposed : Type 0 where

@@ -1,15 +1,8 @@
 -- Sets of a unit's fields, and tables of such sets, one for each procedure.
-use Rattle.std.specs.Prelude.{◌≡◌, ◌<◌, ◌||◌, ℕ, zero, suc, Bool, false, if◌then◌else◌, List, []}
-use Rattle.std.specs.Prelude.{◌∷◌, length, get_or, Option, Some, None, slice_get}
-
+use Rattle.std.specs.Prelude.{◌≡◌, ◌<◌, ℕ, zero, suc, Bool, false, if◌then◌else◌, List, []}
+use Rattle.std.specs.Prelude.{◌∷◌, length, Option, Some, None, slice_get}
 -- a set says of each field of the unit, by its number, whether it is in
-abbrev pub contains : List Bool → ℕ → Bool
-contains set f = get_or set f false
-
--- the second set has what the first has, and each field of the unit that passes the test
-pub record Marked (test : ℕ → Bool) (old new : List Bool) : Type 0 where
-  pub same_length : length new ≡ length old
-  pub each : (f : ℕ) → f < length old → contains new f ≡ (contains old f || test f)
+pub use Rattle.exo_modes.specs.Calls.Marked.{contains, Marked}
 
 -- of each field of the unit the second set has what the change makes of what the first has
 pub record Changed (change : ℕ → Bool → Bool) (old new : List Bool) : Type 0 where

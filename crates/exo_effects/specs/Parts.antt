@@ -1,7 +1,7 @@
 -- Which part of a buffer each name of a procedure stands for.
 use Rattle.std.specs.Prelude.{ℕ, pos, List, [], ◌∷◌, map, Option, Some, None, option_map}
-use Rattle.exo_tree.specs.Tree.{Control, Lit, Coord, Span, Statement, Assign, Reduce, Config, Pass}
-use Rattle.exo_tree.specs.Tree.{If, For, Alloc, View, Call, Param, ParamKind, ControlParam}
+use Rattle.exo_tree.specs.Tree.{Control, Lit, Coord, Span, Statement}
+use Rattle.exo_tree.specs.Tree.{Alloc, View, Param, ParamKind, ControlParam}
 use Rattle.exo_tree.specs.Tree.{TensorParam, WindowParam}
 use Rattle.exo_tree.specs.Context.{Context, Here, After, InLoop, InThen, InElse}
 use Rattle.exo_meaning.specs.Scene.{updated}
@@ -41,15 +41,9 @@ with_params (p ∷ ps) parts = with_params ps (with_kind p.binder.id p.kind part
 
 -- behind a statement, where its allocation stands for this
 abbrev pub behind : (ℕ → List Control → Option Part) → Statement → Parts → Parts
-behind made (Assign x is e) parts = parts
-behind made (Reduce x is e) parts = parts
-behind made (Config f a) parts = parts
-behind made Pass parts = parts
-behind made (If c a b) parts = parts
-behind made (For i lo hi b) parts = parts
 behind made (Alloc x cell dims memory) parts = updated parts x.id (made x.id dims)
 behind made (View w x coords) parts = updated parts w.id (option_map (window_of coords) (parts x))
-behind made (Call k args) parts = parts
+behind made _ parts = parts
 
 -- on the way to a piece a buffer that is made is a root
 abbrev pub passed : Statement → Parts → Parts

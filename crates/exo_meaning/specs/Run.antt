@@ -111,15 +111,9 @@ abbrev mutual
 
 -- the buffer of each name after a statement, by the buffers before it
 abbrev pub roots_after : Statement → (ℕ → ℕ) → ℕ → ℕ
-roots_after (Assign x is e) root = root
-roots_after (Reduce x is e) root = root
-roots_after (Config f a) root = root
-roots_after Pass root = root
-roots_after (If c a b) root = root
-roots_after (For i lo hi b) root = root
 roots_after (Alloc x cell dims memory) root = updated root x.id x.id
 roots_after (View w x coords) root = updated root w.id (root x)
-roots_after (Call k args) root = root
+roots_after _ root = root
 
 abbrev pub is_root : (ℕ → ℕ) → ℕ → Argument → Bool
 is_root root y (ControlArg a) = false

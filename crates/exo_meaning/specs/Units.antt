@@ -93,6 +93,12 @@ param_sort (ControlParam kind) = ControlName kind
 param_sort (TensorParam cell dims memory) = BufferName cell (length dims) true
 param_sort (WindowParam cell dims memory) = BufferName cell (length dims) false
 
+-- a control value
+abbrev pub is_control_param : ParamKind → Bool
+is_control_param (ControlParam kind) = true
+is_control_param (TensorParam cell dims memory) = false
+is_control_param (WindowParam cell dims memory) = false
+
 -- a tensor with dimensions
 abbrev pub is_whole : ParamKind → Bool
 is_whole (ControlParam kind) = false
@@ -116,16 +122,10 @@ view_sort (Some (ControlName kind)) rank = BufferName I32 rank false
 view_sort (Some (BufferName cell r dense)) rank = BufferName cell rank false
 
 abbrev pub scope_after : Statement → Scope → Scope
-scope_after (Assign x is e) scope = scope
-scope_after (Reduce x is e) scope = scope
-scope_after (Config f a) scope = scope
-scope_after Pass scope = scope
-scope_after (If c a b) scope = scope
-scope_after (For i lo hi b) scope = scope
 scope_after (Alloc x cell dims memory) scope =
     with_name scope x (BufferName cell (length dims) true)
 scope_after (View w x coords) scope = with_name scope w (view_sort (sort_in scope x) (spans coords))
-scope_after (Call k args) scope = scope
+scope_after _ scope = scope
 
 abbrev pub is_empty : Block → Bool
 is_empty end = true
@@ -143,6 +143,10 @@ is_rank n = nat_lt n 9
 -- a literal of a tree: from 0 to 2^31 - 1
 abbrev pub is_literal_number : ℤ → Bool
 is_literal_number n = int_le (pos 0) n && int_lt n (pos (2 ^ 31))
+
+abbrev pub is_literal : Control → Bool
+is_literal (Lit n) = true
+is_literal _ = false
 
 -- built of literals alone
 abbrev pub is_of_literals : Control → Bool

@@ -5,4 +5,5 @@ pub mod Arguments
 pub mod Callees
 pub mod Procedures
 pub mod Writes
+pub mod Endings
 pub mod OfCalls

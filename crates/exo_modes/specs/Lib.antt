@@ -1,6 +1,7 @@
 pub mod Aliases
 pub mod Marks
 pub mod Written
+pub mod Reads
 pub mod Seen
 pub mod Sorts
 pub mod Calls

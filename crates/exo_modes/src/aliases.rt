@@ -3,7 +3,7 @@ ghost use Rattle.std.specs.Prelude.{◌≡◌, take, length, OnOk};
 ghost use Rattle.exo_tree.specs.PlainArgument.{argument};
 ghost use Rattle.exo_meaning.specs.Run.{is_root};
 ghost use Rattle.exo_meaning.specs.Scene.{updated};
-ghost use Rattle.exo_modes.specs.Aliases.{roots_in};
+ghost use Rattle.exo_modes.specs.Aliases.{roots_in, same_buffer};
 
 use exo_tree::Arg;
 use std::alloc::AllocError;
@@ -35,6 +35,16 @@ pub fn is_part(aliases: &[Alias], y: u32, a: &Arg) -> bool
     match a {
         Arg::Whole(x) => y == root(aliases, x.0),
         Arg::Window(x, _) => y == root(aliases, x.0),
+        _ => false,
+    }
+}
+
+/// Whether both are parts of one buffer, by the buffers that they are parts of.
+pub fn same_buffer(one: Option<u32>, other: Option<u32>) -> bool
+    ensures { result ≡ same_buffer one other }
+{
+    match (one, other) {
+        (Some(x), Some(y)) => x == y,
         _ => false,
     }
 }

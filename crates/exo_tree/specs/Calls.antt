@@ -4,15 +4,8 @@ use Rattle.exo_tree.specs.Tree.{Argument, Statement, Assign, Reduce, Config, Pas
 
 -- what a statement passes, where it is a call
 abbrev pub passed_by : Statement → List Argument
-passed_by (Assign x is e) = []
-passed_by (Reduce x is e) = []
-passed_by (Config f a) = []
-passed_by Pass = []
-passed_by (If c a b) = []
-passed_by (For i lo hi b) = []
-passed_by (Alloc x cell dims memory) = []
-passed_by (View w x coords) = []
 passed_by (Call k args) = args
+passed_by _ = []
 
 -- of the statement with which a block begins
 abbrev pub call_arguments : Block → List Argument

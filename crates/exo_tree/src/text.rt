@@ -1,5 +1,5 @@
 //! Names and texts, seen as their bytes.
-ghost use Rattle.std.specs.Prelude.{◌≡◌, IfOk, string_bytes};
+ghost use Rattle.std.specs.Prelude.{◌≡◌, ◌++◌, codes, decimal, IfOk, string_bytes};
 
 use std::alloc::{AllocError, Global};
 use std::marker::Model;
@@ -31,6 +31,14 @@ impl Name {
         Ok(Name {
             text: String::from_str(alloc, text)?,
         })
+    }
+
+    /// The name that is spelled so, with `_` and that number behind it.
+    pub fn numbered(alloc: Global, text: &str, number: usize) -> Result<Name, AllocError>
+        ensures { IfOk result (λ n. n ≡ text.now ++ codes "_" ++ decimal number) }
+    {
+        let numbered = format!(in alloc; "{text}_{number}")?;
+        Ok(Name::new(alloc, numbered.as_str())?)
     }
 
     pub fn as_str(&self) -> &str

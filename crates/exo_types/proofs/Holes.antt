@@ -1,5 +1,5 @@
 -- Holes of templates, byte by byte.
-use Rattle.std.proofs.Common.{◌≡◌, ℕ, suc, ◌+◌, ◌-◌, ◌<◌, ◌≤◌, false, ◌&&◌, ◌||◌, if◌then◌else◌, Option, Some, None, is_some, List, [], ◌∷◌, ◌++◌, length, take, drop, get_or, slice_range, refl, ap, sym, ◌∙◌, arith, add-one, drop-cons}
+use Rattle.std.proofs.Common.{◌≡◌, ℕ, suc, ◌+◌, ◌-◌, ◌<◌, ◌≤◌, ◌&&◌, ◌||◌, if◌then◌else◌, Option, Some, None, is_some, List, [], ◌∷◌, ◌++◌, length, drop, get_or, slice_range, refl, ap, sym, ◌∙◌, arith, add-one, drop-cons}
 use Rattle.std.proofs.lemmas.Bool.{ne_eqb}
 use Rattle.std.proofs.lemmas.List.{take_more, get_or-drop, length-drop}
 use Rattle.std.specs.List.{list_any}
@@ -26,18 +26,6 @@ in_hole ps text from k low h other =
     ap (holes_fit ps (InHole name)) (drop-cons text k 0 h ∙ ap (λ n. c ∷ drop n text) (sym (add-one k)))
     ∙ ap (λ b. if b then (list_any (is_hole_of name) ps && holes_fit ps Plain rest) else holes_fit ps (InHole (name ++ c ∷ [])) rest) (ne_eqb c 125 other)
     ∙ ap (λ n. holes_fit ps (InHole n) rest) (sym (hole_grows text from k low h))
-
--- a text is the front and the back of another
-pub text_parts : (name text ending : List ℕ) → length name ≤ length text → is_text text (name ++ ending) ≡ (is_text (take (length name) text) name && is_text (drop (length name) text) ending)
-text_parts [] text ending h = refl
-text_parts (x ∷ name) [] ending h = absurd (omega (arith, h))
-text_parts (x ∷ name) (y ∷ text) ending h = let e = text_parts name text ending (omega (arith, h)) in grind arith
-
--- a shorter text is none
-pub text_short : (name text ending : List ℕ) → length text < length name → is_text text (name ++ ending) ≡ false
-text_short [] text ending h = absurd (omega (arith, h))
-text_short (x ∷ name) [] ending h = refl
-text_short (x ∷ name) (y ∷ text) ending h = let e = text_short name text ending (omega (arith, h)) in grind arith
 
 -- ---- the parameters of a procedure
 

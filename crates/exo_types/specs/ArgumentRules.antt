@@ -22,6 +22,7 @@ use Rattle.rules_names.specs.ExpressionRules.{condition_faults, list_of}
 use Rattle.exo_types.specs.declared.call.Passed.{Passed}
 use Rattle.rules_names.specs.WindowRules.{coordinates_width, window_faults, coordinates_of}
 use Rattle.rules_names.specs.Resolved.{control_of, condition_of}
+use Rattle.exo_modes.specs.Aliases.{same_buffer}
 
 -- ---- how many tokens there are
 
@@ -68,12 +69,6 @@ pub record Signature : Type 0 where
 
 abbrev pub signature_of : Callee → Signature
 signature_of callee = record { params = callee.procedure.params; writes = callee.writes }
-
--- both are parts of one buffer
-abbrev pub same_buffer : Option ℕ → Option ℕ → Bool
-same_buffer None other = false
-same_buffer (Some x) None = false
-same_buffer (Some x) (Some y) = x == y
 
 -- what is told of an argument to those behind it
 abbrev pub passed_for : (ℕ → Bool) → Param → Option ℕ → Passed

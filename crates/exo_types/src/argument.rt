@@ -9,23 +9,22 @@ ghost use Rattle.exo_reader.specs.Views.{plain_coordinate, plain_argument};
 ghost use Rattle.rules_names.specs.Faults.{charged};
 ghost use Rattle.rules_names.specs.declared.fault.Fault.{Fault};
 ghost use Rattle.rules_names.specs.Names.{named_in, sort_of};
-ghost use Rattle.rules_names.specs.Tests.{reads, most_tokens};
+ghost use Rattle.rules_names.specs.Tests.{most_tokens};
+ghost use Rattle.exo_modes.specs.Reads.{reads};
 ghost use Rattle.rules_names.specs.ExpressionRules.{width, closed_width};
 ghost use Rattle.rules_names.specs.WindowRules.{coordinates_width, coordinates_of};
 ghost use Rattle.exo_modes.specs.Aliases.{roots_in};
 ghost use Rattle.exo_modes.specs.Sorts.{sort_seen};
 ghost use Rattle.exo_types.specs.ArgumentRules as rules;
 
-use exo_modes::{Alias, Sort, has_cell, is_dense, root};
+use exo_modes::{Alias, PLAINLY, Reads, Sort, WITH_BOTH, has_cell, is_dense, root};
 use exo_reader::source::{SourceArg, SourceCoord};
 use exo_tree::{Arg, Cell, Coord, Coords, Kind, ParamKind};
 use rules_names::control::{test_condition, test_control, test_controls, test_wrong_form};
 use rules_names::error::TypeKind;
 use rules_names::fault::Charge;
 use rules_names::resolved::{NO_ID, condition_of, control_of, coordinates_of, id_in};
-use rules_names::tested::{
-    Names, PLAINLY, Reads, Tested, WITH_BOTH, name_charge, rank_charge, suits,
-};
+use rules_names::tested::{Names, Tested, name_charge, rank_charge, suits};
 use rules_names::width::end_of;
 use rules_names::window::test_window;
 use std::alloc::{AllocError, Global};

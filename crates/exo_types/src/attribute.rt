@@ -14,7 +14,8 @@ ghost use Rattle.exo_types.specs.MemoryRules.{attribute_faults, attribute_width,
 ghost use Rattle.exo_types.specs.MemoryRules.{attributes_fault, lanes_faults, count_of, truth_of};
 ghost use Rattle.exo_types.specs.MemoryRules.{with_trait, with_attributes};
 
-use crate::types::{cell_of_text, is_same};
+use crate::types::cell_of_text;
+use exo_modes::is_same;
 use exo_reader::source::{SourceAttribute, SourceValue};
 use exo_tree::{MemoryClass, Name, Text};
 use rules_names::error::TypeKind;

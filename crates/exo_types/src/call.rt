@@ -5,12 +5,12 @@ ghost use Rattle.exo_meaning.specs.Units.{is_whole};
 ghost use Rattle.exo_reader.specs.Views.{plain_argument};
 ghost use Rattle.rules_names.specs.Faults.{charged};
 ghost use Rattle.rules_names.specs.Tests.{most_tokens};
-ghost use Rattle.exo_modes.specs.Aliases.{roots_in};
+ghost use Rattle.exo_modes.specs.Aliases.{roots_in, same_buffer};
 ghost use Rattle.exo_types.specs.ArgumentRules as rules;
 ghost use Rattle.exo_types.specs.Seen.{signature};
 
 use crate::argument::{argument_of, root_of, test_argument};
-use exo_modes::{Alias, Row};
+use exo_modes::{Alias, Row, same_buffer};
 use exo_reader::source::SourceArg;
 use exo_tree::{Args, Param, ParamKind, Params};
 use rules_names::error::TypeKind;
@@ -33,16 +33,6 @@ pub struct Passed {
     pub root: Option<u32>,
     pub written: bool,
     pub whole: bool,
-}
-
-/// Whether both are parts of one buffer.
-fn same_buffer(one: Option<u32>, other: Option<u32>) -> bool
-    ensures { result ≡ rules.same_buffer one other }
-{
-    match (one, other) {
-        (Some(x), Some(y)) => x == y,
-        _ => false,
-    }
 }
 
 /// Whether both are parts of one buffer, one of the two parameters is written, and one of the two is a

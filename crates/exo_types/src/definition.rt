@@ -20,7 +20,7 @@ use crate::part::{binder_charge, comma_width, end_of_memory, memory_charge, memo
 use crate::refusal::{Refusal, keep};
 use crate::statement::add_statements;
 use crate::types::{cell_charge, cell_of, kind_named};
-use exo_modes::param_sort;
+use exo_modes::{PLAINLY, WITH_BOTH, param_sort};
 use exo_reader::source::{SourceDef, SourceKind, SourceParam, SourceType};
 use exo_tree::{
     Block, Conds, Indices, Name, Param, ParamKind, Params, Proc, StatementLines, Text as Template,
@@ -31,7 +31,7 @@ use rules_names::fault::Charge;
 use rules_names::resolved::{condition_of, indices_of};
 use rules_names::scope::Scope;
 use rules_names::table::NameTable;
-use rules_names::tested::{Names, PLAINLY, WITH_BOTH};
+use rules_names::tested::Names;
 use std::alloc::{AllocError, Global};
 use text_expressions::source::SourceExpr;
 use text_lexer::text::Text;

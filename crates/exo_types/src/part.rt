@@ -10,6 +10,7 @@ ghost use Rattle.exo_types.specs.TypeRules.{binder_faults, memory_faults, memory
 ghost use Rattle.exo_types.specs.ArgumentRules.{dims_width, comma_width, points};
 ghost use Rattle.exo_types.specs.StatementRules.{store_faults};
 
+use exo_modes::PLAINLY;
 use exo_tree::MemId;
 use rules_names::control::test_controls;
 use rules_names::datum::test_data;
@@ -17,7 +18,7 @@ use rules_names::error::TypeKind;
 use rules_names::fault::Charge;
 use rules_names::scope::Scope;
 use rules_names::table::NameTable;
-use rules_names::tested::{Names, PLAINLY, is_buffer, name_charge, rank_charge};
+use rules_names::tested::{Names, is_buffer, name_charge, rank_charge};
 use text_expressions::source::SourceExpr;
 use text_lexer::text::Text;
 

@@ -27,7 +27,7 @@ use crate::part::{
 };
 use crate::refusal::{Refusal, keep, unknown_name};
 use crate::types::{cell_charge, cell_of};
-use exo_modes::Sort;
+use exo_modes::{PLAINLY, Sort, WITH_FIELDS, WITH_STRIDES};
 use exo_reader::source::{SourceArgs, SourceCoord, SourceKind, SourceStmt};
 use exo_tree::{Binder, Block, Cell, DataExpr, Id, Indices, Kind, ProcId, Stmt};
 use rules_names::control::{test_condition, test_control};
@@ -36,7 +36,7 @@ use rules_names::resolved::{
     boxed_condition, control_of, coordinates_of, data_of, id_in, indices_of,
 };
 use rules_names::scope::Scope;
-use rules_names::tested::{Names, PLAINLY, WITH_FIELDS, WITH_STRIDES, is_buffer};
+use rules_names::tested::{Names, is_buffer};
 use rules_names::window::test_window;
 use std::alloc::AllocError;
 use text_expressions::source::SourceExpr;

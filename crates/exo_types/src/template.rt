@@ -1,13 +1,13 @@
 //! Templates of instructions.
-ghost use Rattle.std.specs.Prelude.{◌≡◌, ◌+◌, ◌<◌, ◌++◌, List, IfSome, length, map};
+ghost use Rattle.std.specs.Prelude.{◌≡◌, ◌+◌, ◌<◌, List, IfSome, length, map};
 ghost use Rattle.std.specs.List.{list_any};
 ghost use Rattle.exo_tree.specs.Tree.{Param};
 ghost use Rattle.exo_meaning.specs.Units as units;
-ghost use Rattle.exo_meaning.specs.Units.{is_text, data_ending};
 ghost use Rattle.exo_reader.specs.Views.{plain_form, plain_parameter};
 ghost use Rattle.exo_types.specs.HoleRules.{is_control, is_written_hole, HaveHoles, IsBegun, fits_from};
 
-use crate::types::{is_same, kind_named};
+use crate::types::kind_named;
+use exo_modes::{is_data_of, is_same};
 use exo_reader::source::{SourceParam, SourceType};
 
 /// Where the reading of a template stands.
@@ -31,17 +31,6 @@ fn is_control(form: &SourceType) -> bool
         SourceType::Plain(kind, dims) => dims.is_empty() && kind_named(kind).is_some(),
         SourceType::Window(_, _) => false,
     }
-}
-
-/// Whether the text is the name with `_data` behind it.
-fn is_data_of(text: &[u8], name: &[u8]) -> bool
-    ensures { result ≡ is_text text.now (name.now ++ data_ending) }
-{
-    if text.len() < name.len() {
-        return false;
-    }
-    let (front, back) = text.split_at(name.len());
-    is_same(front, name) && is_same(back, b"_data")
 }
 
 /// Whether a hole is that of a parameter: `{n}` of a control value, `{x_data}` of a buffer.

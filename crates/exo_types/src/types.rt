@@ -1,23 +1,16 @@
 //! Types and words, where parameters, statements and attributes name them.
 ghost use Rattle.std.specs.Prelude.{◌≡◌, map, option_map};
 ghost use Rattle.exo_tree.specs.PlainBinder.{cell_type, control_kind};
-ghost use Rattle.exo_meaning.specs.Units.{is_text};
 ghost use Rattle.exo_reader.specs.Views.{plain_kind};
 ghost use Rattle.rules_names.specs.Faults.{charged};
 ghost use Rattle.exo_types.specs.TypeRules.{cell_among, cell_of_text, cell_named, kind_of_text};
 ghost use Rattle.exo_types.specs.TypeRules.{kind_named, cell_faults, kind_faults, cell_of, kind_of};
 
+use exo_modes::is_same;
 use exo_reader::source::SourceKind;
 use exo_tree::{Cell, Kind};
 use rules_names::error::TypeKind;
 use rules_names::fault::Charge;
-
-/// Whether the texts are the same.
-pub fn is_same(one: &[u8], other: &[u8]) -> bool
-    ensures { result ≡ is_text one.now other.now }
-{
-    one == other
-}
 
 /// The types of cells by their words.
 const CELL_WORDS: [(&[u8], Cell); 4] = [

@@ -23,12 +23,13 @@ use Rattle.rules_names.specs.Names.{name_number, no_id}
 use Rattle.rules_names.specs.Laws.{KeepsIds}
 use Rattle.exo_types.specs.declared.call.Passed.{Passed}
 use Rattle.exo_types.specs.TypeRules.{number_or}
-use Rattle.exo_types.specs.ArgumentRules.{Signature, signature_of, same_buffer, passed_for, shares, is_passed, argument_width, argument_faults, argument_of, arguments_of, arguments_faults, call_faults, params_of}
+use Rattle.exo_types.specs.ArgumentRules.{Signature, signature_of, passed_for, shares, is_passed, argument_width, argument_faults, argument_of, arguments_of, arguments_faults, call_faults, params_of}
 use Rattle.exo_types.specs.StatementRules.{number_in, callee_named}
 use Rattle.exo_types_laws.proofs.Unbroken.{pair, nor, negated, not_true, none_of_both, left_none, right_none, fault_none, unless_none}
 use Rattle.exo_types_laws.proofs.Texts.{Text, front, back, behind}
 use Rattle.exo_types_laws.proofs.Leaves.{Laws}
 use Rattle.exo_types_laws.proofs.Arguments.{argument_formed}
+use Rattle.exo_modes.specs.Aliases.{same_buffer}
 
 -- ---- texts of arguments
 

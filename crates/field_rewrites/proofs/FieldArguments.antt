@@ -5,7 +5,7 @@ use Rattle.std.specs.Prelude.{not, option_map, option_and_then, slice_get, IfSom
 use Rattle.std.specs.Str.{bytes_eq}
 use Rattle.exo_tree.specs.Tree.{Argument, ControlArg, ConditionArg, Whole, Window, Param, Procedure}
 use Rattle.exo_tree.specs.Tree.{Statement, Assign, Reduce, Config, Pass, If, For, Alloc, View, Call}
-use Rattle.config_laws.specs.BindConfig.{reads_any, asks_any, is_control, Bound, bound_here}
+use Rattle.config_laws.specs.BindConfig.{reads_any, asks_any, Bound, bound_here}
 use Rattle.config_laws.specs.BindConfig.{behind_argument, bound_in, bound_by}
 use Rattle.field_rewrites.specs.Binding.{is_bindable, field_for, named_in, with_field, bound_for}
 use Rattle.field_rewrites.specs.Binding.{control_at, bound_of}
@@ -13,6 +13,7 @@ use Rattle.field_rewrites.specs.declared.calls.CallAt.{CallAt}
 use Rattle.field_rewrites.specs.declared.bound.BoundAt.{BoundAt}
 use Rattle.field_rewrites.specs.PlainCall.{call_of, plain_call}
 use Rattle.field_rewrites.specs.PlainBound.{IsCallOf}
+use Rattle.exo_meaning.specs.Units.{is_control_param}
 
 module _ (f : ℕ) where
   either_way : (t : Bool) (b : Bound) → (if t then None else Some b) ≡ (if not t then Some b else None)
@@ -72,11 +73,11 @@ module _ (f : ℕ) where
       first false = refl
 
       go : (t : Bool) → bound_in f x ps args ≡ bound_of f x ps args
-          → (if t then (if is_control p.kind then bound_here f a args else None)
+          → (if t then (if is_control_param p.kind then bound_here f a args else None)
           else behind_argument a (bound_in f x ps args))
           ≡ option_and_then (by_number (p ∷ ps) (a ∷ args))
           (if t then Some zero else option_map suc (named_in x ps))
-      go true same = first (is_control p.kind)
+      go true same = first (is_control_param p.kind)
       go false same = ap (behind_argument a) same ∙ one_further p ps a args (named_in x ps)
 
 -- ---- in a call

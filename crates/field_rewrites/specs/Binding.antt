@@ -4,7 +4,8 @@ use Rattle.std.specs.Prelude.{◌∷◌, Option, Some, None, option_map, option_
 use Rattle.std.specs.Str.{bytes_eq}
 use Rattle.exo_tree.specs.Tree.{Field, FieldFlag, Argument, ControlArg, ConditionArg, Whole, Window}
 use Rattle.exo_tree.specs.Tree.{Param}
-use Rattle.config_laws.specs.BindConfig.{reads_any, asks_any, is_control, Bound}
+use Rattle.config_laws.specs.BindConfig.{reads_any, asks_any, Bound}
+use Rattle.exo_meaning.specs.Units.{is_control_param}
 
 -- a control argument that reads no field
 abbrev pub is_bindable : Argument → Bool
@@ -38,7 +39,7 @@ bound_for f k args a =
 
 -- the parameter of that number is a control one
 abbrev pub control_at : List Param → ℕ → Bool
-control_at ps k = elim (slice_get ps k) [ None ↦ false | Some p ↦ is_control p.kind ]
+control_at ps k = elim (slice_get ps k) [ None ↦ false | Some p ↦ is_control_param p.kind ]
 
 abbrev pub bound_of : ℕ → List ℕ → List Param → List Argument → Option Bound
 bound_of f x params args =

@@ -34,7 +34,8 @@ use Rattle.loop_laws.proofs.Turns.{le_of, cut_turns, turns_alike}
 use Rattle.loop_laws.specs.SameTurns.{at_turn}
 use Rattle.loop_laws.proofs.SameTrees.{same_blocks_are}
 use Rattle.loop_laws.proofs.UnrollLoop.{reads_variables}
-use Rattle.loop_laws.specs.JoinLoops.{Neighbours, unbounded, have_one_body, joined_loop}
+use Rattle.loop_laws.specs.JoinLoops.{unbounded, have_one_body, joined_loop}
+use Rattle.loop_laws.specs.Nest.Fuse.{Two}
 
 -- ---- numbers of bounds that agree
 
@@ -73,7 +74,7 @@ at_number z end = end
 at_number z (next (For i lo hi b) rest) = next (For i (Lit z) (Lit (z +ℤ pos 1)) b) rest
 at_number z (next a rest) = next a rest
 
-copies_alike : (base : ℕ) (n : Neighbours) (z : ℤ) → have_one_body base n ≡ true
+copies_alike : (base : ℕ) (n : Two) (z : ℤ) → have_one_body base n ≡ true
     → bare (fresh base (one_turn z n.first)) ≡ bare (fresh base (one_turn z n.second))
 copies_alike base n z h =
     ap (at_number z)
@@ -82,7 +83,7 @@ copies_alike base n z h =
 -- ---- the runs
 
 -- what is known where a run comes to two such loops
-pub record Meeting (base : ℕ) (n : Neighbours) (u : State) : Type 0 where
+pub record Meeting (base : ℕ) (n : Two) (u : State) : Type 0 where
   pub sound : IsSound u
   pub alike : have_one_body base n ≡ true
   pub first_copied : (z : ℤ) → MayCopy base (one_turn z n.first) u
@@ -93,7 +94,7 @@ pub record Meeting (base : ℕ) (n : Neighbours) (u : State) : Type 0 where
   pub above : holds u.scene (Le n.first.lo n.first.hi) ≡ true
   pub below : holds u.scene (Le n.second.lo n.second.hi) ≡ true
 
-module _ (world : World) (base : ℕ) (n : Neighbours) (u : State) (m : Meeting base n u) where
+module _ (world : World) (base : ℕ) (n : Two) (u : State) (m : Meeting base n u) where
   abbrev go : ℤ → State → Option State
   go = turn n.first.binder.id (run world n.first.body)
 

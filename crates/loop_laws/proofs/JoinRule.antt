@@ -47,7 +47,8 @@ use Rattle.loop_laws.proofs.Bounds.{bounds_agree}
 use Rattle.loop_laws.proofs.Sites.{found_then, block_of, is_below, bounds_plain, loop_lacks}
 use Rattle.loop_laws.proofs.Sites.{lacking_loop, given_unused}
 use Rattle.loop_laws.proofs.UnrollLoop.{then_got, same_got}
-use Rattle.loop_laws.specs.JoinLoops.{Neighbours, neighbours, have_one_body, meet_in_variables}
+use Rattle.loop_laws.specs.JoinLoops.{have_one_body, meet_in_variables}
+use Rattle.loop_laws.specs.Nest.Fuse.{Two, with_second, two_of}
 use Rattle.loop_laws.specs.JoinLoops.{with_one_body, where_they_meet, joining, joined_loop, join_needs}
 use Rattle.loop_laws.specs.JoinLoops.{joining_at, join_rule}
 use Rattle.loop_laws.proofs.JoinLoops.{numbers_agree, one_turn, join_same}
@@ -60,7 +61,7 @@ same_some h = cc
 abbrev loop_statement : Loop → Statement
 loop_statement l = For l.binder l.lo l.hi l.body
 
-abbrev two_loops : Neighbours → Block
+abbrev two_loops : Two → Block
 two_loops n = next (loop_statement n.first) (block_of n.second)
 
 loop_in_is : (a : Statement) (l : Loop) → loop_in a ≡ Some l → a ≡ loop_statement l
@@ -74,12 +75,11 @@ loop_in_is (Alloc x cell dims memory) l h = cc
 loop_in_is (View w x coords) l h = cc
 loop_in_is (Call k args) l h = cc
 
-neighbours_are : (b : Block) (n : Neighbours) → neighbours b ≡ Some n → b ≡ two_loops n
+neighbours_are : (b : Block) (n : Two) → two_of b ≡ Some n → b ≡ two_loops n
 neighbours_are end n h = cc
 neighbours_are (next a end) n h = cc
 neighbours_are (next a (next b end)) n h =
-    let k = found_then (loop_in a)
-    (λ k. option_map (λ l. record { first = k; second = l }) (loop_in b)) n h in
+    let k = found_then (loop_in a) (with_second b) n h in
     by (loop_in b) refl k.0 k.1 k.2
   where
     by : (o : Option Loop) → loop_in b ≡ o → (k : Loop) → loop_in a ≡ Some k
@@ -91,14 +91,14 @@ neighbours_are (next a (next b end)) n h =
         ∙ ap two_loops (same_some g)
 neighbours_are (next a (next b (next c rest))) n h = cc
 
-record IsJoining (base : ℕ) (b : Block) (n : Neighbours) : Type 0 where
+record IsJoining (base : ℕ) (b : Block) (n : Two) : Type 0 where
   is : b ≡ two_loops n
   alike : have_one_body base n ≡ true
   lo : is_affine variables n.second.lo ≡ true
   hi : is_affine variables n.first.hi ≡ true
   meet : agree extent_reading n.second.lo n.first.hi ≡ true
 
-with_one_body_is : (base : ℕ) (m n : Neighbours) → with_one_body base m ≡ Some n
+with_one_body_is : (base : ℕ) (m n : Two) → with_one_body base m ≡ Some n
     → (m ≡ n) × (have_one_body base m ≡ true) × (meet_in_variables m ≡ true)
 with_one_body_is base m n h = by (have_one_body base m) (meet_in_variables m) refl refl h
   where
@@ -109,20 +109,20 @@ with_one_body_is base m n h = by (have_one_body base m) (meet_in_variables m) re
     by true false p q h = cc
     by false t p q h = cc
 
-where_they_meet_is : (m n : Neighbours) → where_they_meet m ≡ Got n
+where_they_meet_is : (m n : Two) → where_they_meet m ≡ Got n
     → (m ≡ n) × (agree extent_reading m.second.lo m.first.hi ≡ true)
 where_they_meet_is m n h =
     let u = unless_got (bounds_differ m.second.lo m.first.hi) (Got m) n h in
     (same_got u.1, bounds_agree m.second.lo m.first.hi u.0)
 
-joining_found : (base : ℕ) (b : Block) (n : Neighbours) → joining base b ≡ Got n
+joining_found : (base : ℕ) (b : Block) (n : Two) → joining base b ≡ Got n
     → IsJoining base b n
 joining_found base b n h =
-    let read = option_and_then (with_one_body base) (neighbours b) in
+    let read = option_and_then (with_one_body base) (two_of b) in
     let t = then_got (tried read (λ m. m)) where_they_meet n h in
     let w = where_they_meet_is t.0 n t.2 in
     let o = made_of read (λ m. m) t.0 t.1 in
-    let f = found_then (neighbours b) (with_one_body base) o.of o.found in
+    let f = found_then (two_of b) (with_one_body base) o.of o.found in
     let k = with_one_body_is base f.0 o.of f.2 in
     let all : f.0 ≡ n = k.0 ∙ o.made ∙ w.0 in
     let v = subst (λ m. meet_in_variables m ≡ true) all k.2 in
@@ -145,7 +145,7 @@ or_left : (a t : Bool) → a || false ≡ true → a || t ≡ true
 or_left true t h = refl
 or_left false t h = cc
 
-module _ (a : Site) (is : IsSite join_rule a) (n : Neighbours)
+module _ (a : Site) (is : IsSite join_rule a) (n : Two)
     (known : IsJoining (next_id a.spot.target.proc) (old a.spot) n) where
   abbrev p : Procedure
   p = a.spot.target.proc
@@ -297,6 +297,6 @@ join_is_carrying = record {
   apart = λ a is. go (joining_at a.spot);
 }
   where
-    go : (j : Tried Neighbours) → are_apart (listed_of (λ m. stays 1) j) ≡ true
+    go : (j : Tried Two) → are_apart (listed_of (λ m. stays 1) j) ≡ true
     go (Got n) = refl
     go (Not cause) = refl

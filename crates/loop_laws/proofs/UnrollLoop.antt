@@ -39,13 +39,14 @@ use Rattle.step_rules.specs.Shapes.{tried}
 use Rattle.step_rules.proofs.Shapes.{made_of, or_pass_next}
 use Rattle.loop_laws.specs.Copies.{bodies_with, written_out, Writes, AreBelow}
 use Rattle.loop_laws.specs.Shapes.{loop_of}
-use Rattle.loop_laws.specs.UnrollLoop.{with_affine_bounds, bound_fits, bound_form, constant_of}
+use Rattle.loop_laws.specs.UnrollLoop.{with_affine_bounds, constant_of}
 use Rattle.loop_laws.specs.UnrollLoop.{few_between, few_turns, turns_of, Unrolling, unrolling}
 use Rattle.loop_laws.specs.UnrollLoop.{are_too_many, with_few}
 use Rattle.loop_laws.specs.UnrollLoop.{turns_written, into_first, unroll_shifts, unroll_rule}
 use Rattle.loop_laws.proofs.Copies.{turns_may_be_written_out, loops_of_no_turn_may_go}
 use Rattle.loop_laws.proofs.Bones.{same_bones, same_length, all_parted}
 use Rattle.loop_laws.proofs.Sites.{found_then, loop_of_is}
+use Rattle.exo_effects.specs.Accesses.{plain_fits, plain_form}
 
 -- ---- what is known of what was tried
 
@@ -112,10 +113,10 @@ constant_value scene l n h = by l.constant l.terms h
     by m (term c a ts) h = cc
 
 number_of_bound : (scene : Scene) (e : Control) (n : ℤ) → is_affine variables e ≡ true
-    → constant_of (bound_form e) ≡ Some n → number scene e ≡ n
+    → constant_of (plain_form e) ≡ Some n → number scene e ≡ n
 number_of_bound scene e n affine h =
     sym (normal_law variables (values_in scene) extent_reading scene e (reads_variables scene) affine)
-    ∙ constant_value scene (bound_form e) n h
+    ∙ constant_value scene (plain_form e) n h
 
 -- ---- the loop that is written out
 
@@ -146,14 +147,14 @@ affine_found k l h = by (is_affine variables k.lo) (is_affine variables k.hi) re
 record AreConstant (l : Loop) (ns : List ℤ) : Type 0 where
   lo : ℤ
   hi : ℤ
-  is_lo : constant_of (bound_form l.lo) ≡ Some lo
-  is_hi : constant_of (bound_form l.hi) ≡ Some hi
+  is_lo : constant_of (plain_form l.lo) ≡ Some lo
+  is_hi : constant_of (plain_form l.hi) ≡ Some hi
   turns : run.range lo (count (hi -ℤ lo)) ≡ ns
 
 constants_found : (l : Loop) (ns : List ℤ) → turns_of l ≡ Got ns → AreConstant l ns
 constants_found l ns h =
-    by (bound_fits l.lo && bound_fits l.hi) (constant_of (bound_form l.lo))
-    (constant_of (bound_form l.hi)) refl refl h
+    by (plain_fits l.lo && plain_fits l.hi) (constant_of (plain_form l.lo))
+    (constant_of (plain_form l.hi)) refl refl h
   where
     few : (lo hi : ℤ) → few_between lo hi ≡ Got ns → run.range lo (count (hi -ℤ lo)) ≡ ns
     few lo hi h = by (nat_lt 256 (count (hi -ℤ lo))) h
@@ -164,8 +165,8 @@ constants_found l ns h =
         by true h = cc
         by false h = same_got h
 
-    by : (t : Bool) (x y : Option ℤ) → constant_of (bound_form l.lo) ≡ x
-        → constant_of (bound_form l.hi) ≡ y
+    by : (t : Bool) (x y : Option ℤ) → constant_of (plain_form l.lo) ≡ x
+        → constant_of (plain_form l.hi) ≡ y
         → (if t then few_turns x y else Not (Form WideNumber)) ≡ Got ns → AreConstant l ns
     by true (Some lo) (Some hi) p q h = record {
       lo = lo;

@@ -1,7 +1,7 @@
 -- The rule that makes one loop of two, the inner of which has a fixed number of turns.
 use Rattle.std.specs.Prelude.{ℕ, ℤ, pos, int_le, if◌then◌else◌, List, [], ◌∷◌, length}
 use Rattle.std.specs.Prelude.{Option, Some, None, option_and_then, option_map}
-use Rattle.exo_tree.specs.Tree.{Binder, Control, Lit, Var, Field, StrideOf, Neg, Add, Sub, Mul, Div}
+use Rattle.exo_tree.specs.Tree.{Binder, Control, Lit, Var, Sub, Mul, Div}
 use Rattle.exo_tree.specs.Tree.{Mod, Block, statements}
 use Rattle.exo_tree.specs.Substitution.{in_block}
 use Rattle.place_laws.specs.Scope.UnrollLoop.{only_loop}
@@ -22,15 +22,7 @@ pub record Pair : Type 0 where
 -- a literal from 1 on
 abbrev pub positive_literal : Control → Option ℤ
 positive_literal (Lit n) = if int_le (pos 1) n then Some n else None
-positive_literal (Var x) = None
-positive_literal (Field f) = None
-positive_literal (StrideOf x k) = None
-positive_literal (Neg a) = None
-positive_literal (Add a b) = None
-positive_literal (Sub a b) = None
-positive_literal (Mul a b) = None
-positive_literal (Div a c) = None
-positive_literal (Mod a c) = None
+positive_literal _ = None
 
 abbrev pub with_count : Loop → Loop → Option Pair
 with_count k l =

@@ -2,8 +2,7 @@
 use Rattle.std.specs.Prelude.{ℕ, zero, suc, pos, Bool, false, if◌then◌else◌}
 use Rattle.std.specs.Prelude.{List, [], ◌∷◌, Option, Some, None, option_and_then}
 use Rattle.std.specs.Ordering.{int_eq}
-use Rattle.exo_tree.specs.Tree.{Control, Lit, Var, Field, StrideOf, Neg, Add, Sub, Mul, Div, Mod}
-use Rattle.exo_tree.specs.Tree.{Statement, Assign, Reduce, Config, Pass, If, For, Alloc, View, Call}
+use Rattle.exo_tree.specs.Tree.{Control, Lit, Statement, For}
 use Rattle.exo_tree.specs.Tree.{Block}
 use Rattle.exo_tree.specs.Places.{Main, Path}
 use Rattle.cursor_forward.specs.Shifts.{Shift, at_index}
@@ -14,15 +13,8 @@ use Rattle.step_rules.specs.Shapes.{tried, alone_in, one_statement}
 -- ---- one loop
 
 abbrev pub loop_in : Statement → Option Loop
-loop_in (Assign x is e) = None
-loop_in (Reduce x is e) = None
-loop_in (Config f a) = None
-loop_in Pass = None
-loop_in (If c a b) = None
 loop_in (For i lo hi b) = Some (record { binder = i; lo = lo; hi = hi; body = b })
-loop_in (Alloc x cell dims memory) = None
-loop_in (View w x coords) = None
-loop_in (Call k args) = None
+loop_in _ = None
 
 -- a loop that is all of a block
 abbrev pub loop_of : Block → Option Loop
@@ -31,15 +23,7 @@ loop_of b = option_and_then loop_in (alone_in b)
 -- the literal 0
 abbrev pub is_zero : Control → Bool
 is_zero (Lit n) = int_eq n (pos 0)
-is_zero (Var x) = false
-is_zero (Field f) = false
-is_zero (StrideOf x k) = false
-is_zero (Neg a) = false
-is_zero (Add a b) = false
-is_zero (Sub a b) = false
-is_zero (Mul a b) = false
-is_zero (Div a c) = false
-is_zero (Mod a c) = false
+is_zero _ = false
 
 -- such a loop, where it begins at the literal 0
 abbrev pub from_zero : Loop → Option Loop

@@ -1,16 +1,15 @@
 -- The rule that writes out the turns of a loop whose bounds are constants.
-use Rattle.std.specs.Prelude.{ℕ, ◌*◌, nat_lt, ℤ, ◌-ℤ◌, Bool, true, false, not, ◌&&◌, ◌||◌}
+use Rattle.std.specs.Prelude.{ℕ, ◌*◌, nat_lt, ℤ, ◌-ℤ◌, Bool, false, not, ◌&&◌, ◌||◌}
 use Rattle.std.specs.Prelude.{if◌then◌else◌, List, [], ◌∷◌}
 use Rattle.std.specs.Prelude.{length, Option, Some, None, option_and_then}
-use Rattle.exo_tree.specs.Tree.{Control, Statement, Assign, Reduce, Config, Pass, If, For, Alloc}
-use Rattle.exo_tree.specs.Tree.{View, Call, Block, end, next, statements}
+use Rattle.exo_tree.specs.Tree.{Statement, Pass, Block, end, next, statements}
 use Rattle.exo_tree.specs.Nodes.{nodes_in}
 use Rattle.exo_tree.specs.Places.{Path, opened}
+use Rattle.exo_meaning.specs.Units.{scope_after}
 use Rattle.exo_meaning.specs.Run.{count}
 use Rattle.exo_meaning.specs.Run as run
 use Rattle.affine_forms.specs.Atoms.{none, term, Linear}
-use Rattle.affine_forms.specs.Forms.{is_affine, normal, is_writable}
-use Rattle.affine_places.specs.Readings.{extent_reading}
+use Rattle.affine_forms.specs.Forms.{is_affine}
 use Rattle.affine_places.specs.Roots.{variables}
 use Rattle.match_laws.specs.Simplify.Simplified.{literal}
 use Rattle.cursor_forward.specs.Causes.{WrongShape, LimitPassed, Form, WideNumber}
@@ -21,6 +20,7 @@ use Rattle.step_rules.specs.Answer.{then_try, opened_or_wrong}
 use Rattle.step_rules.specs.Shapes.{tried}
 use Rattle.loop_laws.specs.Copies.{written_out}
 use Rattle.loop_laws.specs.Shapes.{loop_of, inside}
+use Rattle.exo_effects.specs.Accesses.{plain_fits, plain_form}
 
 -- ---- the turns
 
@@ -28,13 +28,6 @@ use Rattle.loop_laws.specs.Shapes.{loop_of, inside}
 abbrev pub with_affine_bounds : Loop → Option Loop
 with_affine_bounds l =
     if is_affine variables l.lo && is_affine variables l.hi then Some l else None
-
--- the normal form of such a bound
-abbrev pub bound_form : Control → Linear
-bound_form e = normal extent_reading e
-
-abbrev pub bound_fits : Control → Bool
-bound_fits e = is_writable extent_reading e
 
 -- the number of a form that is a constant
 abbrev pub constant_of : Linear → Option ℤ
@@ -53,8 +46,8 @@ few_turns (Some lo) (Some hi) = few_between lo hi
 -- the numbers of the turns; the normal forms of both bounds are made first
 abbrev pub turns_of : Loop → Tried (List ℤ)
 turns_of l =
-    if bound_fits l.lo && bound_fits l.hi
-    then few_turns (constant_of (bound_form l.lo)) (constant_of (bound_form l.hi))
+    if plain_fits l.lo && plain_fits l.hi
+    then few_turns (constant_of (plain_form l.lo)) (constant_of (plain_form l.hi))
     else Not (Form WideNumber)
 
 -- ---- a loop with the numbers of its turns
@@ -63,17 +56,9 @@ pub record Unrolling : Type 0 where
   pub loop : Loop
   pub turns : List ℤ
 
--- to those behind it in its block
+-- a name of it is in scope behind it
 abbrev pub leaves_name : Statement → Bool
-leaves_name (Assign x is e) = false
-leaves_name (Reduce x is e) = false
-leaves_name (Config f a) = false
-leaves_name Pass = false
-leaves_name (If c a b) = false
-leaves_name (For i lo hi b) = false
-leaves_name (Alloc x cell dims memory) = true
-leaves_name (View w x coords) = true
-leaves_name (Call k args) = false
+leaves_name a = nat_lt 0 (length (scope_after a []))
 
 abbrev pub leave_names : Block → Bool
 leave_names end = false

@@ -26,11 +26,12 @@ use Rattle.step_rules.specs.Answer.{then_try}
 use Rattle.step_rules.specs.Shapes.{tried}
 use Rattle.step_driver.specs.Outcomes.{Tries, RefusedBy}
 use Rattle.loop_laws.specs.Shapes.{loop_of}
-use Rattle.loop_laws.specs.UnrollLoop.{Unrolling, unrolling, with_affine_bounds, bound_fits, bound_form}
+use Rattle.loop_laws.specs.UnrollLoop.{Unrolling, unrolling, with_affine_bounds}
 use Rattle.loop_laws.specs.UnrollLoop.{constant_of, few_between, few_turns, turns_of, with_few}
 use Rattle.loop_laws.proofs.UnrollLoop.{same_got}
 use Rattle.loop_laws.specs.Nest.Fuse.{bounds_are_affine}
 use Rattle.loop_rewrites.specs.PlainTurns.{with_turns}
+use Rattle.exo_effects.specs.Accesses.{plain_fits, plain_form}
 
 -- ---- constants
 
@@ -75,24 +76,24 @@ refused_wide plain tried (Err y) e fits is h k =
 
 -- ---- the turns of a loop
 
-pub wide_lower : (l : Loop) → bound_fits l.lo ≡ false
+pub wide_lower : (l : Loop) → plain_fits l.lo ≡ false
     → with_turns l (turns_of l) ≡ Not (Form WideNumber)
 wide_lower l h =
-    ap (λ (b : Bool). with_turns l (if b && bound_fits l.hi then few_turns (constant_of (bound_form l.lo)) (constant_of (bound_form l.hi)) else Not (Form WideNumber))) h
+    ap (λ (b : Bool). with_turns l (if b && plain_fits l.hi then few_turns (constant_of (plain_form l.lo)) (constant_of (plain_form l.hi)) else Not (Form WideNumber))) h
 
-pub wide_upper : (l : Loop) → bound_fits l.lo ≡ true → bound_fits l.hi ≡ false
+pub wide_upper : (l : Loop) → plain_fits l.lo ≡ true → plain_fits l.hi ≡ false
     → with_turns l (turns_of l) ≡ Not (Form WideNumber)
 wide_upper l h k =
-    ap (λ (b : Bool). with_turns l (if b then few_turns (constant_of (bound_form l.lo)) (constant_of (bound_form l.hi)) else Not (Form WideNumber))) (ap₂ ◌&&◌ h k)
+    ap (λ (b : Bool). with_turns l (if b then few_turns (constant_of (plain_form l.lo)) (constant_of (plain_form l.hi)) else Not (Form WideNumber))) (ap₂ ◌&&◌ h k)
 
 -- by the constants of the forms
 pub turns_are : (l : Loop) (lo hi : Linear)
-    → (bound_fits l.lo ≡ true) × (lo ≡ bound_form l.lo)
-    → (bound_fits l.hi ≡ true) × (hi ≡ bound_form l.hi)
+    → (plain_fits l.lo ≡ true) × (lo ≡ plain_form l.lo)
+    → (plain_fits l.hi ≡ true) × (hi ≡ plain_form l.hi)
     → few_turns (constant_of lo) (constant_of hi) ≡ turns_of l
 turns_are l lo hi h k =
     ap₂ (λ x y. few_turns (constant_of x) (constant_of y)) h.1 k.1
-    ∙ sym (ap (λ (b : Bool). if b then few_turns (constant_of (bound_form l.lo)) (constant_of (bound_form l.hi)) else Not (Form WideNumber)) (ap₂ ◌&&◌ h.0 k.0))
+    ∙ sym (ap (λ (b : Bool). if b then few_turns (constant_of (plain_form l.lo)) (constant_of (plain_form l.hi)) else Not (Form WideNumber)) (ap₂ ◌&&◌ h.0 k.0))
 
 pub many_between : (lo hi : ℤ) → pos 256 <ℤ (hi -ℤ lo) → few_between lo hi ≡ Not LimitPassed
 many_between lo hi h =

@@ -1,4 +1,3 @@
 pub mod PlainNest
 pub mod PlainTwo
 pub mod PlainParting
-pub mod PlainNeighbours

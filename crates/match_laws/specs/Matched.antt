@@ -45,13 +45,8 @@ known_if params a (Some x) = if params x then Some (record { param = x; argument
 -- the whole of a bound or of a written value that is a parameter
 abbrev pub known_by : (ℕ → Bool) → Pair → Option Known
 known_by params (Numbers p true e g) = known_if params (ControlArg g) (variable_of e)
-known_by params (Numbers p false e g) = None
 known_by params (Truths p true c d) = known_if params (ConditionArg d) (flag_of c)
-known_by params (Truths p false c d) = None
-known_by params (Binders x y) = None
-known_by params (Own p x y) = None
-known_by params (Access p x cs y ds) = None
-known_by params (Unlike p) = None
+known_by params _ = None
 
 abbrev pub argument_if : ℕ → Option Known → Option Argument
 argument_if x None = None
@@ -69,12 +64,8 @@ argument_in params (a ∷ pairs) x =
 -- ---- up to where the walk goes
 
 abbrev pub partner_if : ℕ → Pair → Option ℕ
-partner_if x (Numbers p whole e g) = None
-partner_if x (Truths p whole c d) = None
 partner_if x (Binders a b) = if a == x then Some b else None
-partner_if x (Own p a b) = None
-partner_if x (Access p a cs y ds) = None
-partner_if x (Unlike p) = None
+partner_if x _ = None
 
 -- the block's binder that corresponds to one of the callee's
 abbrev pub partner : List Pair → ℕ → Option ℕ

@@ -6,7 +6,7 @@ use Rattle.exo_tree.specs.Places.{Path}
 use Rattle.exo_meaning.specs.Unseen.{in_control as mentions}
 use Rattle.affine_forms.specs.Forms.{Reading}
 use Rattle.match_laws.specs.Names.{Buffer}
-use Rattle.match_laws.specs.Pairs.{Pair, Numbers, Truths, Binders, Own, Access, Unlike}
+use Rattle.match_laws.specs.Pairs.{Pair, Access}
 use Rattle.match_laws.specs.Moved.{Moving, both, one, moved, agree, simpler}
 
 -- an access of the parameter against one of a name
@@ -17,13 +17,9 @@ pub record Use : Type 0 where
   pub theirs : List Coord
 
 abbrev pub use_in : ℕ → Pair → List Use
-use_in x (Numbers p whole e g) = []
-use_in x (Truths p whole c d) = []
-use_in x (Binders a b) = []
-use_in x (Own p a b) = []
 use_in x (Access p a cs y ds) =
     if a == x then (record { path = p; ours = cs; name = y; theirs = ds }) ∷ [] else []
-use_in x (Unlike p) = []
+use_in x _ = []
 
 abbrev pub uses_of : ℕ → List Pair → List Use
 uses_of x [] = []

@@ -18,8 +18,9 @@ use Rattle.cursor_forward.specs.declared.proposal.StepError.{StepError}
 use Rattle.step_driver.specs.Needs.Outcomes.{RefusedBy, Tries}
 use Rattle.step_rules.specs.Rule.{Tried, Got, Not, Target}
 use Rattle.call_laws.specs.Simplify.{reading_of, rooted}
-use Rattle.call_laws.specs.Replace.Rule.{hands_wholes, given_in, may_share}
+use Rattle.call_laws.specs.Replace.Rule.{hands_wholes, may_share}
 use Rattle.call_laws.specs.Replace.Rule.{param_name, told, told_there, said}
+use Rattle.check_claims.specs.Arguments.{passed_for}
 
 pub without_extents : (p : Procedure) → has_extents p ≡ false → rooted p ≡ no_roots
 without_extents p h = ap (λ t. if t then roots_of p else no_roots) h
@@ -71,7 +72,7 @@ module _ (t : Target) (o : Opened) (k : ℕ) (q : Procedure) where
 
   module _ (args : List Argument) where
     abbrev handed : Bool
-    handed = hands_wholes (given_in q.params args) q.body o.piece
+    handed = hands_wholes (passed_for q.params args) q.body o.piece
 
     abbrev by : Bool → Bool → Tried (List Argument)
     by hands shares =

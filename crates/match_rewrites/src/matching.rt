@@ -15,6 +15,7 @@ ghost use Rattle.step_driver.specs.PlainTarget.{target, plain_piece};
 ghost use Rattle.step_driver.specs.Spots.{spot_at};
 ghost use Rattle.step_driver.specs.Tables.{HasTables};
 ghost use Rattle.block_matches.specs.PlainMatched.{plain_matched};
+ghost use Rattle.check_claims.specs.Arguments.{passed_for};
 
 use crate::wholes::Handing;
 use affine_forms::{FormError, Reader};
@@ -76,7 +77,7 @@ impl Matching<'_> {
     /// while its argument is the whole of a name.
     fn hands_wholes(&self, alloc: Global, args: &Args) -> Result<bool, AllocError>
         ensures { IfOk result (λ r. r
-            ≡ rule.hands_wholes (rule.given_in (procedure self.now.callee.now).params args.now)
+            ≡ rule.hands_wholes (passed_for (procedure self.now.callee.now).params args.now)
             (procedure self.now.callee.now).body
             (spot_at (target self.now.on.now) (plain_piece self.now.piece.now)).opened.piece) }
     {

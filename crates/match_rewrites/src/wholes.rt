@@ -7,13 +7,14 @@ ghost use Rattle.exo_tree.specs.PlainArgument.{argument};
 ghost use Rattle.exo_tree.specs.PlainParam.{parameter};
 ghost use Rattle.exo_tree.specs.PlainStatement.{statement};
 ghost use Rattle.call_laws.specs.Replace.Rule as plain;
+ghost use Rattle.check_claims.specs.Arguments.{passed_for};
 
 use exo_tree::{Arg, Args, Block, Id, Param, Params, Stmt};
 
 /// The argument of a parameter.
 fn given_in<'a>(params: &[Param], args: &'a [Arg], x: Id) -> Option<&'a Arg>
     ensures { option_map argument (option_copied result)
-        ≡ plain.given_in (map parameter params.now) (map argument args.now) x.0 }
+        ≡ passed_for (map parameter params.now) (map argument args.now) x.0 }
 {
     let (p, more) = params.split_first()?;
     let (a, rest) = args.split_first()?;
@@ -34,8 +35,8 @@ impl Handing<'_> {
     /// Whether the argument of a parameter is a window.
     fn takes_window(&self, x: Id) -> bool
         ensures { result ≡ plain.takes_window
-            (plain.given_in self.now.params.now self.now.args.now)
-            (plain.given_in self.now.params.now self.now.args.now x.0) }
+            (passed_for self.now.params.now self.now.args.now)
+            (passed_for self.now.params.now self.now.args.now x.0) }
     {
         matches!(
             given_in(self.params.as_slice(), self.args.as_slice(), x),
@@ -46,7 +47,7 @@ impl Handing<'_> {
     /// Whether an argument of a call hands on a name whole whose argument is no window, and a
     /// window stands against it.
     fn hands_on(&self, a: &Arg, b: &Arg) -> bool
-        ensures { result ≡ plain.hands_on (plain.given_in self.now.params.now self.now.args.now)
+        ensures { result ≡ plain.hands_on (passed_for self.now.params.now self.now.args.now)
             (argument a.now) (argument b.now) }
     {
         match (a, b) {
@@ -57,7 +58,7 @@ impl Handing<'_> {
 
     /// The same of one of two lists of arguments.
     fn hand_on(&self, ours: &[Arg], theirs: &[Arg]) -> bool
-        ensures { result ≡ plain.hand_on (plain.given_in self.now.params.now self.now.args.now)
+        ensures { result ≡ plain.hand_on (passed_for self.now.params.now self.now.args.now)
             (map argument ours.now) (map argument theirs.now) }
     {
         match (ours.split_first(), theirs.split_first()) {
@@ -69,7 +70,7 @@ impl Handing<'_> {
     /// The same of a call in a statement.
     #[cycle(walk)]
     fn hands_on_in(&self, s: &Stmt, t: &Stmt) -> bool
-        ensures { result ≡ plain.hands_on_in (plain.given_in self.now.params.now self.now.args.now)
+        ensures { result ≡ plain.hands_on_in (passed_for self.now.params.now self.now.args.now)
             (statement s.now) (statement t.now) }
     {
         match (s, t) {
@@ -88,7 +89,7 @@ impl Handing<'_> {
     #[cycle(walk)]
     #[tactic(auto, using(crate::proofs::Together::one_hands, crate::proofs::Together::one_more, crate::proofs::Together::none_hands))]
     pub(crate) fn hands_wholes(&self, b: &Block, d: &Block) -> bool
-        ensures { result ≡ plain.hands_wholes (plain.given_in self.now.params.now self.now.args.now)
+        ensures { result ≡ plain.hands_wholes (passed_for self.now.params.now self.now.args.now)
             (block b.now) (block d.now) }
     {
         for k in 0..b.len().min(d.len()) {

@@ -2,7 +2,7 @@
 use Rattle.std.specs.Prelude.{◌≡◌, ℕ, ℤ, ◌+◌, ◌≤◌, nat_le, nat_lt, Bool, true, false, ◌&&◌, ◌||◌}
 use Rattle.std.specs.Prelude.{⊤, List, [], ◌∷◌, length, Option, option_map, IfSome}
 use Rattle.std.specs.List.{list_all}
-use Rattle.exo_tree.specs.Tree.{Statement, Assign, Reduce, Config, Pass, If, For, Alloc, View, Call}
+use Rattle.exo_tree.specs.Tree.{Statement, If, Alloc, View}
 use Rattle.exo_tree.specs.Tree.{Control, Block, end, next, Procedure}
 use Rattle.exo_tree.specs.Context.{Context, fill}
 use Rattle.exo_tree.specs.Renaming.{binders, fresh}
@@ -61,15 +61,9 @@ CopiesRunAlike =
 
 -- no name is bound behind the block: it has allocations and windows in loops and branches alone
 abbrev pub is_closed_statement : Statement → Bool
-is_closed_statement (Assign x is e) = true
-is_closed_statement (Reduce x is e) = true
-is_closed_statement (Config f a) = true
-is_closed_statement Pass = true
-is_closed_statement (If c a b) = true
-is_closed_statement (For i lo hi b) = true
 is_closed_statement (Alloc x cell dims memory) = false
 is_closed_statement (View w x coords) = false
-is_closed_statement (Call k args) = true
+is_closed_statement _ = true
 
 abbrev pub is_closed : Block → Bool
 is_closed end = true

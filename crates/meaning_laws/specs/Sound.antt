@@ -1,6 +1,6 @@
 -- What holds of the names of a state at a place.
 use Rattle.std.specs.Prelude.{◌≡◌, ℕ, pos, Bool, false, ◌==◌, ◌||◌, Some, None, IsSome}
-use Rattle.exo_tree.specs.Tree.{Statement, Assign, Reduce, Config, Pass, If, For, Alloc, View, Call}
+use Rattle.exo_tree.specs.Tree.{Statement, Alloc, View}
 use Rattle.exo_meaning.specs.Scene.{Seen}
 use Rattle.exo_meaning.specs.State.{State}
 use Rattle.exo_meaning.specs.Footprint.{IsTidy}
@@ -13,15 +13,9 @@ pub record IsSound (s : State) : Type 0 where
 
 -- whether a name is bound after the statement
 abbrev pub binds : Statement → ℕ → Bool
-binds (Assign x is e) y = false
-binds (Reduce x is e) y = false
-binds (Config f a) y = false
-binds Pass y = false
-binds (If c a b) y = false
-binds (For i lo hi b) y = false
 binds (Alloc x cell dims memory) y = y == x.id
 binds (View w x coords) y = y == w.id
-binds (Call k args) y = false
+binds _ y = false
 
 -- whether a name is bound on the way to the hole
 abbrev pub on_way : Context → ℕ → Bool

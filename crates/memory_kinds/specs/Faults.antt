@@ -2,12 +2,12 @@
 use Rattle.std.specs.Prelude.{ℕ, ◌==◌, ◌-◌, pos, Bool, true, false, not, ◌&&◌, List, [], ◌∷◌}
 use Rattle.std.specs.Prelude.{length, Option, Some, None, slice_get}
 use Rattle.std.specs.Ordering.{int_eq}
-use Rattle.exo_tree.specs.Tree.{Cell, Control, Lit, Var, Field, StrideOf, Neg, Add, Sub, Mul, Div}
-use Rattle.exo_tree.specs.Tree.{Mod, Datum, Const, Read, Negated, Relu, Plus, Minus, Times, Select}
+use Rattle.exo_tree.specs.Tree.{Cell, Control, Lit}
+use Rattle.exo_tree.specs.Tree.{Datum, Const, Read, Negated, Relu, Plus, Minus, Times, Select}
 use Rattle.exo_tree.specs.Tree.{Coord, At, Span, Argument, ControlArg, ConditionArg, Whole, Window}
 use Rattle.exo_tree.specs.Tree.{Statement, Assign, Reduce, Config, Pass, If, For, Alloc, View, Call}
 use Rattle.exo_tree.specs.Tree.{Block, end, next, Param, ParamKind, Procedure, MemoryKind, Program}
-use Rattle.exo_meaning.specs.Units.{same_cell}
+use Rattle.exo_meaning.specs.Units.{same_cell, is_literal}
 use Rattle.memory_kinds.specs.declared.error.KindError.{KindError}
 use Rattle.memory_kinds.specs.declared.error.KindError.TheVariants.{NotReadable, NotWritable}
 use Rattle.memory_kinds.specs.declared.error.KindError.TheVariants.{NotReducible, MemoryMismatch}
@@ -26,30 +26,10 @@ or_first (Some e) later = Some e
 
 -- ---- literals
 
-abbrev pub is_literal : Control → Bool
-is_literal (Lit n) = true
-is_literal (Var x) = false
-is_literal (Field f) = false
-is_literal (StrideOf x k) = false
-is_literal (Neg a) = false
-is_literal (Add a b) = false
-is_literal (Sub a b) = false
-is_literal (Mul a b) = false
-is_literal (Div a n) = false
-is_literal (Mod a n) = false
-
 -- the literal of that number, as a tree
 abbrev pub is_literal_of : ℕ → Control → Bool
 is_literal_of m (Lit n) = int_eq n (pos m)
-is_literal_of m (Var x) = false
-is_literal_of m (Field f) = false
-is_literal_of m (StrideOf x k) = false
-is_literal_of m (Neg a) = false
-is_literal_of m (Add a b) = false
-is_literal_of m (Sub a b) = false
-is_literal_of m (Mul a b) = false
-is_literal_of m (Div a n) = false
-is_literal_of m (Mod a n) = false
+is_literal_of m _ = false
 
 abbrev pub are_literals : List Control → Bool
 are_literals [] = true

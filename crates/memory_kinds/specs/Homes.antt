@@ -1,6 +1,6 @@
 -- The memory that each name in scope stands in.
 use Rattle.std.specs.Prelude.{ℕ, Bool, true, false, List, [], ◌∷◌, Option, Some, None}
-use Rattle.exo_tree.specs.Tree.{Statement, Assign, Reduce, Config, Pass, If, For, Alloc, View, Call}
+use Rattle.exo_tree.specs.Tree.{Statement, Alloc, View}
 use Rattle.exo_tree.specs.Tree.{ParamKind, ControlParam, TensorParam, WindowParam, Param}
 use Rattle.exo_meaning.specs.Scene.{updated}
 
@@ -30,27 +30,15 @@ param_homes ps = with_params (λ x. 0) ps
 
 -- behind a statement; a view stands in the memory of what it sees
 abbrev pub homes_after : Homes → Statement → Homes
-homes_after home (Assign x is e) = home
-homes_after home (Reduce x is e) = home
-homes_after home (Config f a) = home
-homes_after home Pass = home
-homes_after home (If c a b) = home
-homes_after home (For i lo hi b) = home
 homes_after home (Alloc x cell dims memory) = updated home x.id memory
 homes_after home (View w x coords) = updated home w.id (home x)
-homes_after home (Call k args) = home
+homes_after home _ = home
 
 -- whether a statement gives a name a memory
 abbrev pub binds : Statement → Bool
-binds (Assign x is e) = false
-binds (Reduce x is e) = false
-binds (Config f a) = false
-binds Pass = false
-binds (If c a b) = false
-binds (For i lo hi b) = false
 binds (Alloc x cell dims memory) = true
 binds (View w x coords) = true
-binds (Call k args) = false
+binds _ = false
 
 -- behind the statements of a block so far
 abbrev pub homes_past : Homes → List Statement → Homes

@@ -4,11 +4,12 @@ ghost use Rattle.std.specs.Result.{result_err};
 ghost use Rattle.exo_tree.specs.PlainBinder.{cell_type};
 ghost use Rattle.exo_tree.specs.PlainControl.{control, coordinate};
 ghost use Rattle.exo_tree.specs.PlainTables.{memory_kind};
-ghost use Rattle.memory_kinds.specs.Faults.{is_literal, is_literal_of, are_literals};
+ghost use Rattle.memory_kinds.specs.Faults.{is_literal_of, are_literals};
 ghost use Rattle.memory_kinds.specs.Faults.{last_is_literal, is_full_span, last_is_full, has_lanes};
 ghost use Rattle.memory_kinds.specs.Faults.{param_fault, alloc_fault, window_fault, takes};
 ghost use Rattle.memory_kinds.specs.Faults.{fault_where};
 ghost use Rattle.memory_kinds.specs.Uses.{use_fault};
+ghost use Rattle.exo_meaning.specs.Units.{is_literal};
 
 use crate::error::KindError;
 use exo_tree::{Cell, Coord, Coords, Ctrl, Indices, MemoryClass};

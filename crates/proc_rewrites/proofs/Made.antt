@@ -1,8 +1,7 @@
 -- Blocks that are made.
 use Rattle.std.proofs.Common.{◌≡◌, true, List, refl, ap, ◌∙◌}
-use Rattle.proc_laws.specs.Expression.Passes.{or_one_pass}
 use Rattle.exo_tree.specs.Tree.{Statement, Block, end, next, block}
-use Rattle.tree_edits.specs.Made.Passes.{pass_for}
+use Rattle.tree_edits.specs.Made.Passes.{pass_for, or_one_pass}
 
 pass_alone : (b : Block) → pass_for true b ≡ or_one_pass b
 pass_alone end = refl

@@ -3,12 +3,12 @@ ghost use Rattle.std.specs.Prelude.{◌≡◌, option_map, map, IfOk};
 ghost use Rattle.exo_tree.specs.Tree.{block};
 ghost use Rattle.exo_tree.specs.PlainPlace.{branch_taken};
 ghost use Rattle.exo_tree.specs.PlainStatement.{statement};
-ghost use Rattle.proc_laws.specs.Expression.Passes.{or_one_pass};
 ghost use Rattle.proc_laws.specs.Statement.DeadCode as plain;
 ghost use Rattle.step_driver.specs.PlainTarget.{target, plain_piece};
 ghost use Rattle.step_driver.specs.Spots.{spot_at};
 ghost use Rattle.step_driver.specs.Needs.PlainNeed.{plain_need};
 ghost use Rattle.proc_rewrites.specs.PlainFork.{plain_fork};
+ghost use Rattle.tree_edits.specs.Made.Passes.{or_one_pass};
 
 use cursor_forward::Shifts;
 use exo_tree::{Block, Branch, Cond, Path, Step, Stmt};

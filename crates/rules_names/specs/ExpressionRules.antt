@@ -10,7 +10,7 @@ use Rattle.exo_meaning.specs.Units.{is_number, is_flag}
 use Rattle.text_lexer.specs.declared.token.Literal.{Literal}
 use Rattle.text_lexer.specs.declared.token.Literal.TheVariants.{Value, TooLarge}
 use Rattle.text_expressions.specs.declared.source.Operator.{Operator}
-use Rattle.text_expressions.specs.declared.source.Operator.TheVariants.{Or, And, Lt, Le, Gt, Ge, Eq}
+use Rattle.text_expressions.specs.declared.source.Operator.TheVariants.{Or, And}
 use Rattle.text_expressions.specs.declared.source.Operator.TheVariants.{Add, Sub, Mul, Div, Mod}
 use Rattle.text_expressions.specs.Expression.{Tree, Trees, number, truth, variable, access, field}
 use Rattle.text_expressions.specs.Expression.{stride, relu, select, negative, parens, binary, end}
@@ -39,18 +39,12 @@ closed_width (e ∷ es) = commas_width (e ∷ es)
 
 -- sums, products, quotients; comparisons and what joins conditions
 abbrev pub is_arithmetic : Operator → Bool
-is_arithmetic Or = false
-is_arithmetic And = false
-is_arithmetic Lt = false
-is_arithmetic Le = false
-is_arithmetic Gt = false
-is_arithmetic Ge = false
-is_arithmetic Eq = false
 is_arithmetic Add = true
 is_arithmetic Sub = true
 is_arithmetic Mul = true
 is_arithmetic Div = true
 is_arithmetic Mod = true
+is_arithmetic _ = false
 
 abbrev pub is_quotient : Operator → Bool
 is_quotient Div = true

@@ -57,14 +57,8 @@ or_else (Some a) b = Some a
 -- rule
 abbrev pub hides : TypeKind → Bool
 hides UnknownName = true
-hides Redefined = false
 hides KindMismatch = true
-hides RankMismatch = false
-hides NotAffine = false
-hides ConfigPlace = false
-hides StridePlace = false
-hides SharedArgument = false
-hides Memory = false
+hides _ = false
 
 abbrev pub any_hides : List Fault → Bool
 any_hides faults = list_any (λ f. hides f.rule) faults

@@ -1,10 +1,8 @@
 -- What the test of an expression tells.
 use Rattle.std.specs.Prelude.{◌≡◌, ℕ, ◌+◌, Bool, false, List}
-use Rattle.exo_meaning.specs.Units as units
 use Rattle.text_expressions.specs.Expression.{Tree}
 use Rattle.rules_names.specs.declared.fault.Fault.{Fault}
 use Rattle.rules_names.specs.declared.tested.Tested.{Tested}
-use Rattle.rules_names.specs.declared.tested.Reads.{Reads}
 use Rattle.rules_names.specs.Faults.{charged}
 use Rattle.rules_names.specs.ExpressionRules.{width, has_variables}
 
@@ -22,10 +20,6 @@ pub record Varies (t : Tested) (e : Tree) : Type 0 where
 pub record Joined (t : Tested) (faults : List Fault) (variables : Bool) : Type 0 where
   pub charge : t.charge ≡ charged faults
   pub told : t.charge.hides ≡ false → t.variables ≡ variables
-
--- what may be read at a place
-abbrev pub reads : Reads → units.Reads
-reads may = record { fields = may.fields; strides = may.strides }
 
 -- the greatest number of a token
 abbrev pub most_tokens : ℕ

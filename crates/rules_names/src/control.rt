@@ -8,7 +8,8 @@ ghost use Rattle.rules_names.specs.declared.error.TypeKind.TheVariants.{KindMism
 ghost use Rattle.rules_names.specs.declared.fault.Fault.{Fault};
 ghost use Rattle.exo_meaning.specs.Units.{is_number, is_flag};
 ghost use Rattle.rules_names.specs.Names.{named_in, sort_of, field_in};
-ghost use Rattle.rules_names.specs.Tests.{Tells, Varies, Joined, reads, most_tokens};
+ghost use Rattle.rules_names.specs.Tests.{Tells, Varies, Joined, most_tokens};
+ghost use Rattle.exo_modes.specs.Reads.{reads};
 ghost use Rattle.rules_names.specs.ExpressionRules.{width, closed_width, is_divisor, has_variables};
 ghost use Rattle.rules_names.specs.ExpressionRules.{affine_faults, suits, name_faults, field_suits};
 ghost use Rattle.rules_names.specs.ExpressionRules.{field_faults, may_be_control, may_be_condition};
@@ -18,12 +19,11 @@ ghost use Rattle.rules_names.specs.ExpressionRules.{controls_faults, condition_f
 use crate::error::TypeKind;
 use crate::fault::Charge;
 use crate::tested::{
-    Names, Reads, Tested, affine_charge, all_of, any_of, dimension_charge, field_charge,
-    field_suits, is_arithmetic, is_buffer, is_divisor, joins_conditions, missing_field,
-    name_charge, suits,
+    Names, Tested, affine_charge, all_of, any_of, dimension_charge, field_charge, field_suits,
+    is_arithmetic, is_buffer, is_divisor, joins_conditions, missing_field, name_charge, suits,
 };
 use crate::width::end_of;
-use exo_modes::{is_flag, is_number};
+use exo_modes::{Reads, is_flag, is_number};
 use text_expressions::source::{Operator, SourceExpr};
 use text_lexer::text::Text;
 

@@ -11,7 +11,8 @@ ghost use Rattle.rules_names.specs.ExpressionRules.{data_faults, read_faults};
 
 use crate::control::{enclosed, named, negated, test_controls, test_wrong_form};
 use crate::fault::Charge;
-use crate::tested::{Names, PLAINLY, Tested, is_buffer, name_charge, rank_charge, suits};
+use crate::tested::{Names, Tested, is_buffer, name_charge, rank_charge, suits};
+use exo_modes::PLAINLY;
 use text_expressions::source::{Operator, SourceExpr};
 use text_lexer::text::Text;
 

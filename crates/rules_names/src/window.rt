@@ -9,7 +9,8 @@ ghost use Rattle.rules_names.specs.WindowRules.{coordinate_width, coordinates_wi
 
 use crate::control::test_control;
 use crate::fault::Charge;
-use crate::tested::{Names, PLAINLY, name_charge, rank_charge};
+use crate::tested::{Names, name_charge, rank_charge};
+use exo_modes::PLAINLY;
 use exo_reader::source::SourceCoord;
 
 /// The charge of a coordinate, and the number of the token behind it.

@@ -14,9 +14,8 @@ use Rattle.step_rules.specs.Rule as rule
 use Rattle.step_rules.specs.Answer.{proposed}
 use Rattle.tree_laws.specs.Findings.Versions.{with_version}
 use Rattle.rules_names.specs.Arguments.{is_control_form, is_condition_form, is_coordinate_form}
-use Rattle.schedule_calls.specs.Requests.{Asked, Change, Alone, WithControl, WithWord, MultLoops}
-use Rattle.schedule_calls.specs.Requests.{Specialize, CommuteExpr, BindExpr, ExpandDim, StageMem}
-use Rattle.schedule_calls.specs.Requests.{WriteConfig, BindConfig, DivideLoop, EliminateDeadCode}
+use Rattle.schedule_calls.specs.Requests.{Asked, Change, WithControl}
+use Rattle.schedule_calls.specs.Requests.{Specialize, ExpandDim, StageMem}
 use Rattle.schedule_calls.specs.Requests.{Operation, At, Whole, Rename, Request}
 use Rattle.schedule_calls.specs.Requests as request
 use Rattle.schedule_laws.specs.Versions.Versions.{Versions, version_at}
@@ -65,19 +64,11 @@ place_at v k at stands = then_make (as_found (sought v k at)) (λ c. as_tried (s
 
 -- expressions have the forms of their places, as in each line
 abbrev pub change_has_form : Change → Bool
-change_has_form (Alone o) = true
 change_has_form (WithControl o e) = is_control_form e
-change_has_form (WithWord o word) = true
-change_has_form (MultLoops name) = true
 change_has_form (Specialize c) = is_condition_form c
-change_has_form (CommuteExpr x) = true
-change_has_form (BindExpr x name) = true
 change_has_form (ExpandDim size point) = is_control_form size && is_control_form point
 change_has_form (StageMem window name accum) = list_all is_coordinate_form window.1
-change_has_form (WriteConfig config field e) = true
-change_has_form (BindConfig param config field) = true
-change_has_form (DivideLoop d) = true
-change_has_form (EliminateDeadCode keep) = true
+change_has_form _ = true
 
 abbrev pub has_form : Operation → Bool
 has_form (At at change) = change_has_form change

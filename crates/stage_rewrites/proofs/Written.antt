@@ -15,7 +15,7 @@ use Rattle.affine_forms.specs.declared.error.FormError.TheVariants.{WideNumber, 
 use Rattle.affine_places.specs.Roots.{variables}
 use Rattle.affine_places.proofs.Rules.{rules_kept}
 use Rattle.match_laws.specs.Simplify.Simplified.{simplified}
-use Rattle.buffer_laws.specs.MadeIndices.{as_themselves, variables_alone}
+use Rattle.buffer_laws.specs.MadeIndices.{as_themselves}
 use Rattle.buffer_laws.specs.Simplified.{simpler, all_simpler, coords_simpler}
 use Rattle.step_rules.specs.Rule.{Writing, AsMade, Simplified}
 use Rattle.alloc_laws.specs.Stage.Written.{written_as, is_written, are_written, coords_written}
@@ -45,16 +45,16 @@ second_wide x y p q same h = wide_same x y q (p && q) same (ap (λ (b : Bool). b
 -- ---- one expression
 
 both : (a b : Control)
-    → (is_affine variables_alone a ≡ true → is_plain a ≡ true)
-    → (is_affine variables_alone b ≡ true → is_plain b ≡ true)
-    → (is_affine variables_alone a && is_affine variables_alone b) ≡ true
+    → (is_affine variables a ≡ true → is_plain a ≡ true)
+    → (is_affine variables b ≡ true → is_plain b ≡ true)
+    → (is_affine variables a && is_affine variables b) ≡ true
     → (is_plain a && is_plain b) ≡ true
 both a b f g h =
-    let p = and_parts (is_affine variables_alone a) (is_affine variables_alone b) h in
+    let p = and_parts (is_affine variables a) (is_affine variables b) h in
     ap₂ ◌&&◌ (f p.0) (g p.1)
 
 -- an affine expression of variables reads neither fields nor strides
-plain_affine : (e : Control) → is_affine variables_alone e ≡ true → is_plain e ≡ true
+plain_affine : (e : Control) → is_affine variables e ≡ true → is_plain e ≡ true
 plain_affine (Lit n) h = refl
 plain_affine (Var x) h = refl
 plain_affine (Field f) h = h
@@ -65,11 +65,11 @@ plain_affine (Sub a b) h = both a b (plain_affine a) (plain_affine b) h
 plain_affine (Mul a b) h =
     both a b (plain_affine a) (plain_affine b)
     (and_parts (is_of_literals a || is_of_literals b)
-    (is_affine variables_alone a && is_affine variables_alone b) h).1
+    (is_affine variables a && is_affine variables b) h).1
 plain_affine (Div a c) h =
-    plain_affine a (and_parts (is_positive c) (is_affine variables_alone a) h).1
+    plain_affine a (and_parts (is_positive c) (is_affine variables a) h).1
 plain_affine (Mod a c) h =
-    plain_affine a (and_parts (is_positive c) (is_affine variables_alone a) h).1
+    plain_affine a (and_parts (is_positive c) (is_affine variables a) h).1
 
 -- the same on both sides
 chosen : {A : Type 0} (b : Bool) (x : A) → cond b x x ≡ x

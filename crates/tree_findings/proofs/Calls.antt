@@ -1,15 +1,21 @@
 -- What is found in a call, by the table of modes.
 use Rattle.std.proofs.Common.{◌≡◌, ℕ, Bool, false, List, [], Option, None, Some, option_map, refl, ap, sym, ◌∙◌}
 use Rattle.std.specs.Prelude.{slice_get}
-use Rattle.exo_tree.specs.Tree.{Argument, Procedure, Program}
+use Rattle.exo_tree.specs.Tree.{Kind, Argument, Procedure, Program}
 use Rattle.exo_meaning.specs.Calls.{Callee}
 use Rattle.exo_meaning.specs.Run.{callees, kinds_of, program_world}
 use Rattle.exo_meaning.specs.Modes.{Modes, modes_at}
-use Rattle.exo_meaning.specs.Units.{Scope, field_kind, share_nothing_written}
+use Rattle.exo_meaning.specs.Units.{Scope, field_kind, same_root, share_nothing_written}
+use Rattle.exo_modes.specs.Aliases.{same_buffer}
 use Rattle.exo_modes.specs.Marks.{modes_of, writing}
 use Rattle.tree_findings.specs.Classes.{both, rule}
 use Rattle.tree_findings.specs.Findings.{findings_of_arguments, findings_of_call}
 use Rattle.tree_findings.proofs.Callees.{callee_at, callee_says}
+
+pub same_roots : (fields : ℕ → Option Kind) (r q : Option ℕ) → same_buffer r q ≡ same_root fields r q
+same_roots fields None q = refl
+same_roots fields (Some x) None = refl
+same_roots fields (Some x) (Some y) = refl
 
 none_of : {A B : Type 0} (f : A → B) (o : Option A) → option_map f o ≡ None → o ≡ None
 none_of f None e = refl

@@ -41,15 +41,9 @@ with_view w (Some sort) rank scope = with_name scope w (view_sort (Some sort) ra
 
 -- the names in scope behind a statement
 abbrev pub scope_behind : Statement → Scope → Scope
-scope_behind (Assign x is e) scope = scope
-scope_behind (Reduce x is e) scope = scope
-scope_behind (Config f a) scope = scope
-scope_behind Pass scope = scope
-scope_behind (If c a b) scope = scope
-scope_behind (For i lo hi b) scope = scope
 scope_behind (Alloc x cell dims memory) scope = with_name scope x (BufferName cell (length dims) true)
 scope_behind (View w x coords) scope = with_view w (sort_in scope x) (spans coords) scope
-scope_behind (Call k args) scope = scope
+scope_behind _ scope = scope
 
 -- fields: the kind of each field that there is
 module _ (fields : ℕ → Option Kind) where

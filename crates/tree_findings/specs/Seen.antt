@@ -2,12 +2,10 @@
 use Rattle.std.specs.Prelude.{ℕ, ◌==◌, ◌||◌, Bool, List, [], ◌∷◌, Option}
 use Rattle.exo_tree.specs.PlainBinder.{binding}
 use Rattle.exo_tree.specs.Tree.{Kind, Binder}
-use Rattle.exo_meaning.specs.Units as units
 use Rattle.exo_meaning.specs.Units.{Named, Scope, is_text, field_kind}
 use Rattle.exo_modes.specs.Sorts.{sort_meant}
 use Rattle.tree_findings.specs.declared.scope.Entry.{Entry}
 use Rattle.tree_findings.specs.declared.name.Names.{Names}
-use Rattle.tree_findings.specs.declared.name.Reads.{Reads}
 
 -- ---- scopes
 
@@ -33,6 +31,3 @@ kinds_seen names = field_kind names.fields.now
 
 abbrev pub scope_seen : Names → Scope
 scope_seen names = scope_in names.entries.now
-
-abbrev pub reads : Reads → units.Reads
-reads may = record { fields = may.fields; strides = may.strides }

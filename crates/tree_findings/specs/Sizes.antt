@@ -1,26 +1,23 @@
 -- How large an expression is. An index, a bound, a dimension or a coordinate is an expression of
 -- its own: its nodes do not count in what stands round it, but its depth does.
-use Rattle.std.specs.Prelude.{ℕ, ◌+◌, ◌-◌, ◌^◌, min, max, nat_le, Bool, ◌&&◌, List, [], ◌∷◌}
+use Rattle.std.specs.Prelude.{ℕ, ◌+◌, max, nat_le, Bool, ◌&&◌, List, [], ◌∷◌}
 use Rattle.exo_tree.specs.Tree.{Control, Lit, Var, Field, StrideOf, Neg, Add, Sub, Mul, Div, Mod}
 use Rattle.exo_tree.specs.Tree.{Condition, True, False, Flag, FieldFlag, Lt, Le, Gt, Ge, Eq, And, Or}
 use Rattle.exo_tree.specs.Tree.{Datum, Const, Read, Negated, Relu, Plus, Minus, Times, Select}
 use Rattle.exo_tree.specs.Tree.{Coord, At, Span}
 use Rattle.tree_findings.specs.declared.size.Size.{Size}
-
--- counts stop at the greatest number of 64 bits, which is past all limits
-abbrev pub counted : ℕ → ℕ
-counted n = min n (2 ^ 64 - 1)
+use Rattle.exo_tree.specs.Nodes.{capped}
 
 abbrev pub leaf : Size
 leaf = record { nodes = 1; depth = 1 }
 
 -- one node with this below
 abbrev pub above : Size → Size
-above a = record { nodes = counted (a.nodes + 1); depth = counted (a.depth + 1) }
+above a = record { nodes = capped (a.nodes + 1); depth = capped (a.depth + 1) }
 
 -- two side by side
 abbrev pub beside : Size → Size → Size
-beside a b = record { nodes = counted (a.nodes + b.nodes); depth = max a.depth b.depth }
+beside a b = record { nodes = capped (a.nodes + b.nodes); depth = max a.depth b.depth }
 
 -- the literal right of a quotient or remainder is a node
 abbrev pub control_size : Control → Size
@@ -55,7 +52,7 @@ deepest (a ∷ rest) = max (control_size a).depth (deepest rest)
 
 abbrev pub datum_size : Datum → Size
 datum_size (Const n) = leaf
-datum_size (Read x is) = record { nodes = 1; depth = counted (deepest is + 1) }
+datum_size (Read x is) = record { nodes = 1; depth = capped (deepest is + 1) }
 datum_size (Negated a) = above (datum_size a)
 datum_size (Relu a) = above (datum_size a)
 datum_size (Plus a b) = above (beside (datum_size a) (datum_size b))

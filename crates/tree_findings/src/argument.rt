@@ -7,13 +7,14 @@ ghost use Rattle.exo_tree.specs.PlainControl.{coordinate};
 ghost use Rattle.exo_meaning.specs.Units as units;
 ghost use Rattle.tree_findings.specs.Classes as classes;
 ghost use Rattle.tree_findings.specs.Findings as found;
-ghost use Rattle.tree_findings.specs.Seen.{kinds_seen, scope_seen, reads};
+ghost use Rattle.tree_findings.specs.Seen.{kinds_seen, scope_seen};
+ghost use Rattle.exo_modes.specs.Reads.{reads};
 
 use crate::expression::{in_condition, in_control, in_window, spans};
 use crate::findings::Findings;
-use crate::name::{Names, Reads, WITH_BOTH, WITH_STRIDES, use_of};
+use crate::name::{Names, use_of};
 use crate::size::deepest_coord;
-use exo_modes::{has_cell, has_rank, is_dense};
+use exo_modes::{Reads, WITH_BOTH, WITH_STRIDES, has_cell, has_rank, is_dense};
 use exo_tree::{Arg, Cell, Coord, Id, Kind, Param, ParamKind};
 
 /// What is found in an argument for a control value.

@@ -16,7 +16,7 @@ ghost use Rattle.tree_findings.specs.Walked.{IsGround, ground_callees, ground_ki
 use crate::argument::in_arguments;
 use crate::findings::Findings;
 use crate::name::Names;
-use exo_modes::{Alias, ModeTable, root};
+use exo_modes::{Alias, ModeTable, root, same_buffer};
 use exo_tree::{Arg, Args, Id, Param, ParamKind, Params, ProcId, Unit};
 
 /// What stands round a body: its unit, with the modes of its procedures.
@@ -51,10 +51,7 @@ impl<'u> Ground<'u> {
     fn same_root(&self, one: Option<u32>, other: Option<u32>) -> bool
         ensures { result ≡ units.same_root (ground_kinds self.now) one other }
     {
-        match (one, other) {
-            (Some(x), Some(y)) => x == y,
-            _ => false,
-        }
+        same_buffer(one, other)
     }
 
     /// Whether the callee writes one of two parameters.

@@ -6,13 +6,14 @@ ghost use Rattle.exo_meaning.specs.Units as units;
 ghost use Rattle.exo_meaning.specs.Units.{plainly};
 ghost use Rattle.tree_findings.specs.Classes.{both, rule, all_of};
 ghost use Rattle.tree_findings.specs.Findings as found;
-ghost use Rattle.tree_findings.specs.Seen.{kinds_seen, scope_seen, reads};
+ghost use Rattle.tree_findings.specs.Seen.{kinds_seen, scope_seen};
+ghost use Rattle.exo_modes.specs.Reads.{reads};
 
 use crate::findings::Findings;
-use crate::name::{Names, PLAINLY, Reads, divisor, is_literal, use_of};
+use crate::name::{Names, divisor, is_literal, use_of};
 use crate::size::{condition_size, control_size, datum_size};
 use affine_forms::is_of_literals;
-use exo_modes::{has_dimension, has_rank, is_flag, is_number};
+use exo_modes::{PLAINLY, Reads, has_dimension, has_rank, is_flag, is_number};
 use exo_tree::{Cond, Coord, Ctrl, DataExpr, FieldId, Id};
 
 /// What is found in a field that is read as a number.

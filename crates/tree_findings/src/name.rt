@@ -12,39 +12,6 @@ use crate::scope::{Entry, is_new, sort_in};
 use exo_modes::Sort;
 use exo_tree::{Binder, FieldId, Fields, Id, Kind};
 
-/// What an expression may read at its place.
-#[derive(Clone, Copy)]
-pub(crate) struct Reads {
-    /// Fields of configurations.
-    pub(crate) fields: bool,
-    /// Strides of buffers.
-    pub(crate) strides: bool,
-}
-
-/// In a bound, an index, a dimension, a coordinate.
-pub(crate) const PLAINLY: Reads = Reads {
-    fields: false,
-    strides: false,
-};
-
-/// In the condition of a branch.
-pub(crate) const WITH_FIELDS: Reads = Reads {
-    fields: true,
-    strides: false,
-};
-
-/// At the right of a configuration write.
-pub(crate) const WITH_STRIDES: Reads = Reads {
-    fields: false,
-    strides: true,
-};
-
-/// In a control argument.
-pub(crate) const WITH_BOTH: Reads = Reads {
-    fields: true,
-    strides: true,
-};
-
 /// What names stand for at a place.
 #[derive(Clone, Copy)]
 pub(crate) struct Names<'n, 'u> {

@@ -21,9 +21,8 @@ use crate::expression::{
     in_access, in_condition, in_control, in_controls, in_datum, in_window, spans,
 };
 use crate::findings::Findings;
-use crate::name::{PLAINLY, WITH_FIELDS};
 use crate::walk::{Walk, walk_alloc, walk_view};
-use exo_modes::Sort;
+use exo_modes::{PLAINLY, Sort, WITH_FIELDS};
 use exo_tree::{
     Arg, Args, Binder, Block, Cell, Cond, Coords, Ctrl, DataExpr, FieldId, Id, Indices, Kind,
     MemId, ProcId, Stmt,

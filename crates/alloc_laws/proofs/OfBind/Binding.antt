@@ -28,7 +28,7 @@ use Rattle.cursor_forward.specs.Forwards.{bone, Carries, more, none}
 use Rattle.cursor_forward.specs.Shifts.{at_index, range}
 use Rattle.buffer_laws.specs.Bound.{Hole, Top, InNegated, InRelu, InPlus, InMinus, InTimes, PlusIn}
 use Rattle.buffer_laws.specs.Bound.{MinusIn, TimesIn, InFirst, InSecond, InThird, InFourth}
-use Rattle.buffer_laws.specs.Bound.{filled, stores, only_statement, bound_cell, IsShort}
+use Rattle.buffer_laws.specs.Bound.{filled, stores, bound_cell, IsShort}
 use Rattle.buffer_laws.specs.BoundAtPlaces.{ReadsCell}
 use Rattle.buffer_laws.specs.Buffers.{Buffer, allocation, is_buffer}
 use Rattle.buffer_laws.proofs.BoundAtPlaces.{bind_at_place}
@@ -42,6 +42,7 @@ use Rattle.alloc_laws.specs.Bind.Binding.{Form, is_read, is_sum, is_difference, 
 use Rattle.alloc_laws.specs.Bind.Binding.{Found, Left}
 use Rattle.alloc_laws.specs.Bind.Binding.{in_part, at_root, sought, part_found, Store, store_of, storing}
 use Rattle.alloc_laws.specs.Bind.Binding.{cell_of, cells_in, one_cell, bound_store, bind_rule}
+use Rattle.place_laws.specs.Order.Statements.{one}
 
 some_same : {A : Type 0} {a b : A} → Some a ≡ Some b → a ≡ b
 some_same e = cc
@@ -139,24 +140,24 @@ abbrev stored : Store → Datum → Statement
 stored x e = stores x.reduces x.target x.indices e
 
 pub record IsStored (b : Block) (x : Store) : Type 0 where
-  pub is : b ≡ only_statement (stored x (filled x.part.hole x.part.datum))
+  pub is : b ≡ one (stored x (filled x.part.hole x.part.datum))
   pub short : IsShort x.part.datum
 
 stored_by : (reduces : Bool) (y : ℕ) (is : List Control) (f : Form) (e : Datum) (k : ℕ) (x : Store)
     → option_map (λ (p : Part). record { reduces = reduces; target = y; indices = is; part = p })
     (part_found (sought f e k)) ≡ Some x
-    → IsStored (only_statement (stores reduces y is e)) x
+    → IsStored (one (stores reduces y is e)) x
 stored_by reduces y is f e k x h = by (part_found (sought f e k)) refl h
   where
     by : (o : Option Part) → part_found (sought f e k) ≡ o
         → option_map (λ (p : Part). record { reduces = reduces; target = y; indices = is; part = p }) o
         ≡ Some x
-        → IsStored (only_statement (stores reduces y is e)) x
+        → IsStored (one (stores reduces y is e)) x
     by None i h = cc
     by (Some p) i h =
         let q = part_is f e k p (part_found_is (sought f e k) p i) in
-        subst (IsStored (only_statement (stores reduces y is e))) (some_same h) (record {
-          is = ap (λ z. only_statement (stores reduces y is z)) (sym q.all);
+        subst (IsStored (one (stores reduces y is e))) (some_same h) (record {
+          is = ap (λ z. one (stores reduces y is z)) (sym q.all);
           short = q.short;
         })
 
@@ -229,7 +230,7 @@ module _ (fields : ℕ → Option Kind) (scope : Scope) where
 -- the right side of what is stored
 stored_keeps : (fields : ℕ → Option Kind) (memories : ℕ) (callees : ℕ → Option Callee) (scope : Scope)
     (root : ℕ → ℕ) (reduces : Bool) (y : ℕ) (is : List Control) (e : Datum)
-    → is_block fields memories callees scope root (only_statement (stores reduces y is e)) ≡ true
+    → is_block fields memories callees scope root (one (stores reduces y is e)) ≡ true
     → is_datum fields scope e ≡ true
 stored_keeps fields memories callees scope root false y is e h =
     let both = is_access fields scope y is && is_datum fields scope e in
@@ -274,7 +275,7 @@ module _ (f : Form) (k : ℕ) (name : List ℕ) (a : Site) (is : IsSite (bind_ru
       (fewer.block (nat_le a.base) (is_buffer made)
       (λ y h. contrary (y == a.base) (λ j. true≢false
       (sym (le-leb a.base a.base same_base) ∙ ap (nat_le a.base) (sym (eqb-true y a.base j)) ∙ h)))
-      (only_statement (stored x (filled x.part.hole e)))
+      (one (stored x (filled x.part.hole e)))
       (subst (λ b. mentions (nat_le a.base) b ≡ false) stands.is
       (old_is_made p (around s) (old s) a.base below is.spot.body).low))).0
 
@@ -321,15 +322,15 @@ bind_is_carrying f k name = record {
       let first = one_cell (bound_cell (cells_in (scope_here a.spot)) x.part.datum) name a.base in
       let was = stored x (filled x.part.hole x.part.datum) in
       let now = stored x (filled x.part.hole (Read a.base [])) in
-      let rest = next (Assign a.base [] x.part.datum) (only_statement now) in
+      let rest = next (Assign a.base [] x.part.datum) (one now) in
       subst (λ b. Carries shifts b (or_pass (around a.spot) a.draft)) (sym st.is)
-      (subst (λ b. Carries shifts (only_statement was) (or_pass (around a.spot) b)) d.made
-      (subst (Carries shifts (only_statement was)) (sym (or_pass_next (around a.spot) (allocation first) rest)) (
+      (subst (λ b. Carries shifts (one was) (or_pass (around a.spot) b)) d.made
+      (subst (Carries shifts (one was)) (sym (or_pass_next (around a.spot) (allocation first) rest)) (
         record {
-          was = record { around = Here end; piece = only_statement was };
+          was = record { around = Here end; piece = one was };
           is = record {
             around = After (allocation first) (After (Assign a.base [] x.part.datum) (Here end));
-            piece = only_statement now;
+            piece = one now;
           };
           before = refl;
           after = refl;

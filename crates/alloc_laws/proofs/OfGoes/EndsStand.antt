@@ -9,11 +9,12 @@ use Rattle.exo_meaning.specs.Refines.{Both}
 use Rattle.inplace_laws.specs.InPlace.{through, held_through, SeenStands, BufferStands, StandsFor}
 use Rattle.inplace_laws.specs.Staged.{staged}
 use Rattle.inplace_laws.proofs.InPlace.{in_place}
-use Rattle.buffer_laws.specs.Stride.Strides.{nothing, uses_strides, SameButStrides, WhereBoth}
+use Rattle.buffer_laws.specs.Stride.Strides.{uses_strides, SameButStrides, WhereBoth}
 use Rattle.buffer_laws.specs.Stride.Staged.{staged_with, MayStageBlind}
 use Rattle.buffer_laws.proofs.OfStride.Blocks.{blind_block_law}
 use Rattle.buffer_laws.proofs.OfStride.Staged.{placing, none_made, base_a, base_else, stands, same_but}
 use Rattle.alloc_laws.specs.Goes.EndsStand.{EndsStand, NamesStand}
+use Rattle.inplace_laws.specs.CallInPlace.{no_name}
 
 module _ (hidden : ℕ → Bool) (world : World) (sees : ℕ → ℕ → Bool) (root : ℕ → ℕ) (a : ℕ)
     (seen : Seen) (to : Shape) (b : Block) (s : State)
@@ -25,7 +26,7 @@ module _ (hidden : ℕ → Bool) (world : World) (sees : ℕ → ℕ → Bool) (
   all y = true
 
   abbrev Ends : State → State → Type 0
-  Ends = StandsFor hidden all nothing all base s
+  Ends = StandsFor hidden all no_name all base s
 
   base_is : base a ≡ Some seen
   base_is = base_a hidden world sees root a seen to b s may
@@ -33,7 +34,7 @@ module _ (hidden : ℕ → Bool) (world : World) (sees : ℕ → ℕ → Bool) (
   no_base : (y : ℕ) → (y == a) ≡ false → base y ≡ None
   no_base = base_else hidden world sees root a seen to b s may
 
-  view_is : (o p : Option Seen) → Both (SeenStands hidden all nothing all base s) o p
+  view_is : (o p : Option Seen) → Both (SeenStands hidden all no_name all base s) o p
       → ((z : Seen) → p ≡ Some z → (z.buffer == seen.buffer) ≡ false) → o ≡ p
   view_is None None h k = refl
   view_is None (Some v) h k = absurd h
@@ -51,7 +52,7 @@ module _ (hidden : ℕ → Bool) (world : World) (sees : ℕ → ℕ → Bool) (
   ends_stand u p w e h = record {
     control = λ y k. ap (λ f. f y) e.control ∙ h.control y k;
     buffers = λ y k n. e.buffers y n
-        ∙ subst (λ o. BufferStands hidden all nothing all base s o (p.scene.buffers y)
+        ∙ subst (λ o. BufferStands hidden all no_name all base s o (p.scene.buffers y)
         w.scene.buffers y) (no_base y n) (h.buffers y k);
     views = λ y k q. ap (λ f. f y) e.views
         ∙ view_is (p.scene.views y) (w.scene.views y) (h.views y k) q;
@@ -77,7 +78,7 @@ names_stand hidden world sees root a seen to b s calls may =
     (blind_block_law world sees root (λ y. y == a) b (staged a seen to s) inner calls
     (λ y k. ap (uses_strides world.callees sees root b) (eqb-true y a k) ∙ may.strides) may.roots
     (same_but hidden world sees root a seen to b s may))
-    (in_place world hidden (λ y. true) nothing (λ y. true)
+    (in_place world hidden (λ y. true) no_name (λ y. true)
     (base hidden world sees root a seen to b s may) root b s inner outer
     (placing hidden world sees root a seen to b s may) may.names (λ y e. absurd (true≢false e))
     (none_made hidden world sees root a seen to b s may) may.roots

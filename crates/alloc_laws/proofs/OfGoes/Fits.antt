@@ -31,7 +31,7 @@ use Rattle.exo_meaning.proofs.Windows.{none_is_some, one_value, where_parts, map
 use Rattle.buffer_laws.specs.Staging.Converted.{IndicesFit, CoordsFit, IndicesAt, CoordsAt, DatumFits}
 use Rattle.buffer_laws.specs.Staging.Converted.{ArgumentFits, ArgumentsFit, StatementFits}
 use Rattle.buffer_laws.specs.StageMem.{asked_of_indices, asked_of_coords, asked_of_datum}
-use Rattle.buffer_laws.specs.StageMem.{asked_of_arguments, asked_of_statement, whole_coords}
+use Rattle.buffer_laws.specs.StageMem.{asked_of_arguments, asked_of_statement}
 use Rattle.buffer_laws.specs.StageMem.{has_span_at_point}
 use Rattle.buffer_laws.specs.Stride.OnView.{AllHold}
 use Rattle.buffer_laws.proofs.OfStride.OnView.{hold_parts}
@@ -39,6 +39,7 @@ use Rattle.alloc_laws.specs.Goes.Fits.{is_for_field, IndicesMatch, CoordsMatch, 
 use Rattle.alloc_laws.specs.Goes.Fits.{ArgumentsMatch, StatementMatches, is_whole, passes_whole}
 use Rattle.alloc_laws.specs.Goes.Fits.{IsWhole, WholeLaw, FitsFromLies, BlockMatches, WindowComes}
 use Rattle.alloc_laws.specs.Goes.Fits.{WindowShown, SumsShown}
+use Rattle.match_laws.specs.Names.{whole_of}
 
 -- ---- x whole
 
@@ -89,8 +90,8 @@ module _ (scene : Scene) where
   Whole_sides sides cs dims =
       numbers scene dims ≡ extents sides
       → length cs ≡ length dims
-      → has_span_at_point cs (whole_coords dims) ≡ false
-      → AllHold scene (asked_of_coords cs (whole_coords dims))
+      → has_span_at_point cs (whole_of dims) ≡ false
+      → AllHold scene (asked_of_coords cs (whole_of dims))
       → (o : List Side) → narrowed scene sides cs ≡ Some o
       → o ≡ sides
 
@@ -124,7 +125,7 @@ module _ (scene : Scene) where
 
 module _ (x : ℕ) (dims : List Control) (coords : List Coord) (scene : Scene)
     (it : IsWhole x dims coords scene)
-    (all : AllHold scene (asked_of_coords coords (whole_coords dims))) where
+    (all : AllHold scene (asked_of_coords coords (whole_of dims))) where
   abbrev part : List Side → Seen
   part sides = record { buffer = it.seen.buffer; sides = sides }
 
@@ -223,7 +224,7 @@ module _ (x : ℕ) (dims : List Control) (coords : List Coord) (scene : Scene) w
   arguments_fit (ControlArg e ∷ gs) m w all = (tt, arguments_fit gs m.1 w all)
   arguments_fit (ConditionArg c ∷ gs) m w all = (tt, arguments_fit gs m.1 w all)
   arguments_fit (Whole y ∷ gs) m w all =
-      let asked = asked_of_coords coords (whole_coords dims) in
+      let asked = asked_of_coords coords (whole_of dims) in
       let p = hold_parts scene (cond (y == x) asked []) (asked_of_arguments x dims coords gs) all in (
         (λ e. whole_law x dims coords scene (w (ap (λ r. r || list_any (is_whole x) gs) e))
             (hold_where scene (y == x) asked p.0 e)),

@@ -36,9 +36,11 @@ use Rattle.inplace_laws.specs.Uses.{in_control, in_controls, in_condition, in_da
 use Rattle.buffer_laws.specs.Staging.Converted.{indices_on, coords_on, name_on, converted}
 use Rattle.buffer_laws.specs.Staging.Converted.{converted_datum, converted_argument}
 use Rattle.buffer_laws.specs.Staging.Converted.{converted_arguments, converted_statement}
-use Rattle.buffer_laws.specs.Stride.Strides.{nothing, names_of, argument_uses, arguments_use}
+use Rattle.buffer_laws.specs.Stride.Strides.{argument_uses, arguments_use}
 use Rattle.buffer_laws.specs.Stride.Strides.{uses_strides, step_uses_strides}
 use Rattle.alloc_laws.proofs.OfStage.Names.{is_buffer_sort, is_buffer_in}
+use Rattle.buffer_laws.specs.Staging.Alone.{has_root}
+use Rattle.inplace_laws.specs.CallInPlace.{no_name}
 
 two : (a b : Bool) → a ≡ false → b ≡ false → (a || b) ≡ false
 two a b h k = ap₂ ◌||◌ h k
@@ -59,7 +61,7 @@ module _ (fields : ℕ → Option Kind) (memories : ℕ) (callees : ℕ → Opti
   hidden y = y == x
 
   abbrev strides : (ℕ → ℕ) → ℕ → Bool
-  strides root = names_of root r
+  strides root = has_root root r
 
   -- ---- the window's own expressions
 
@@ -150,7 +152,7 @@ module _ (fields : ℕ → Option Kind) (memories : ℕ) (callees : ℕ → Opti
           (sym (eq-eqb r (root y) (sym own ∙ ap root (sym (eqb-true y x e)))) ∙ k))
 
       control : (may : Reads) (e : Control) → is_control fields may scope e ≡ true
-          → in_control nothing (strides root) e ≡ false
+          → in_control no_name (strides root) e ≡ false
           → uses hidden e ≡ false
       control may (Lit n) k h = refl
       control may (Var y) k h = number_name y k
@@ -159,41 +161,41 @@ module _ (fields : ℕ → Option Kind) (memories : ℕ) (callees : ℕ → Opti
       control may (Neg e) k h = control may e k h
       control may (Add e f) k h =
           let p = and_parts (is_control fields may scope e) (is_control fields may scope f) k in
-          let q = or_parts (in_control nothing (strides root) e) (in_control nothing (strides root) f) h in
+          let q = or_parts (in_control no_name (strides root) e) (in_control no_name (strides root) f) h in
           two _ _ (control may e p.0 q.0) (control may f p.1 q.1)
       control may (Sub e f) k h =
           let p = and_parts (is_control fields may scope e) (is_control fields may scope f) k in
-          let q = or_parts (in_control nothing (strides root) e) (in_control nothing (strides root) f) h in
+          let q = or_parts (in_control no_name (strides root) e) (in_control no_name (strides root) f) h in
           two _ _ (control may e p.0 q.0) (control may f p.1 q.1)
       control may (Mul e f) k h =
           let sides = is_control fields may scope e && is_control fields may scope f in
           let p = and_parts (is_control fields may scope e) (is_control fields may scope f)
           (and_parts sides _ k).0 in
-          let q = or_parts (in_control nothing (strides root) e) (in_control nothing (strides root) f) h in
+          let q = or_parts (in_control no_name (strides root) e) (in_control no_name (strides root) f) h in
           two _ _ (control may e p.0 q.0) (control may f p.1 q.1)
       control may (Div e n) k h = control may e (and_parts (is_control fields may scope e) _ k).0 h
       control may (Mod e n) k h = control may e (and_parts (is_control fields may scope e) _ k).0 h
 
       controls : (is : List Control) → are_controls fields plainly scope is ≡ true
-          → in_controls nothing (strides root) is ≡ false
+          → in_controls no_name (strides root) is ≡ false
           → all_use hidden is ≡ false
       controls [] k h = refl
       controls (e ∷ is) k h =
           let p = and_parts (is_control fields plainly scope e) (are_controls fields plainly scope is) k in
-          let q = or_parts (in_control nothing (strides root) e) (in_controls nothing (strides root) is) h in
+          let q = or_parts (in_control no_name (strides root) e) (in_controls no_name (strides root) is) h in
           two _ _ (control plainly e p.0 q.0) (controls is p.1 q.1)
 
       compared : (may : Reads) (e f : Control)
           → (is_control fields may scope e && is_control fields may scope f) ≡ true
-          → (in_control nothing (strides root) e || in_control nothing (strides root) f) ≡ false
+          → (in_control no_name (strides root) e || in_control no_name (strides root) f) ≡ false
           → (uses hidden e || uses hidden f) ≡ false
       compared may e f k h =
           let p = and_parts (is_control fields may scope e) (is_control fields may scope f) k in
-          let q = or_parts (in_control nothing (strides root) e) (in_control nothing (strides root) f) h in
+          let q = or_parts (in_control no_name (strides root) e) (in_control no_name (strides root) f) h in
           two _ _ (control may e p.0 q.0) (control may f p.1 q.1)
 
       condition : (may : Reads) (c : Condition) → is_condition fields may scope c ≡ true
-          → in_condition nothing (strides root) c ≡ false
+          → in_condition no_name (strides root) c ≡ false
           → tests hidden c ≡ false
       condition may True k h = refl
       condition may False k h = refl
@@ -206,15 +208,15 @@ module _ (fields : ℕ → Option Kind) (memories : ℕ) (callees : ℕ → Opti
       condition may (Eq e f) k h = compared may e f k h
       condition may (And c d) k h =
           let p = and_parts (is_condition fields may scope c) (is_condition fields may scope d) k in
-          let q = or_parts (in_condition nothing (strides root) c) (in_condition nothing (strides root) d) h in
+          let q = or_parts (in_condition no_name (strides root) c) (in_condition no_name (strides root) d) h in
           two _ _ (condition may c p.0 q.0) (condition may d p.1 q.1)
       condition may (Or c d) k h =
           let p = and_parts (is_condition fields may scope c) (is_condition fields may scope d) k in
-          let q = or_parts (in_condition nothing (strides root) c) (in_condition nothing (strides root) d) h in
+          let q = or_parts (in_condition no_name (strides root) c) (in_condition no_name (strides root) d) h in
           two _ _ (condition may c p.0 q.0) (condition may d p.1 q.1)
 
       datum : (d : Datum) → is_datum fields scope d ≡ true
-          → in_datum nothing (strides root) d ≡ false
+          → in_datum no_name (strides root) d ≡ false
           → reads hidden (converted_datum a x cs d) ≡ false
       datum (Const n) k h = refl
       datum (Read y is) k h =
@@ -224,19 +226,19 @@ module _ (fields : ℕ → Option Kind) (memories : ℕ) (callees : ℕ → Opti
       datum (Relu d) k h = datum d k h
       datum (Plus d e) k h =
           let p = and_parts (is_datum fields scope d) (is_datum fields scope e) k in
-          let q = or_parts (in_datum nothing (strides root) d) (in_datum nothing (strides root) e) h in
+          let q = or_parts (in_datum no_name (strides root) d) (in_datum no_name (strides root) e) h in
           two _ _ (datum d p.0 q.0) (datum e p.1 q.1)
       datum (Minus d e) k h =
           let p = and_parts (is_datum fields scope d) (is_datum fields scope e) k in
-          let q = or_parts (in_datum nothing (strides root) d) (in_datum nothing (strides root) e) h in
+          let q = or_parts (in_datum no_name (strides root) d) (in_datum no_name (strides root) e) h in
           two _ _ (datum d p.0 q.0) (datum e p.1 q.1)
       datum (Times d e) k h =
           let p = and_parts (is_datum fields scope d) (is_datum fields scope e) k in
-          let q = or_parts (in_datum nothing (strides root) d) (in_datum nothing (strides root) e) h in
+          let q = or_parts (in_datum no_name (strides root) d) (in_datum no_name (strides root) e) h in
           two _ _ (datum d p.0 q.0) (datum e p.1 q.1)
       datum (Select d e f g) k h =
           let is = is_datum fields scope in
-          let of = in_datum nothing (strides root) in
+          let of = in_datum no_name (strides root) in
           let p = and_parts (is d && is e) (is f && is g) k in
           let q = and_parts (is d) (is e) p.0 in
           let s = and_parts (is f) (is g) p.1 in
@@ -247,24 +249,24 @@ module _ (fields : ℕ → Option Kind) (memories : ℕ) (callees : ℕ → Opti
           (two _ _ (datum f s.0 o.0) (datum g s.1 o.1)))
 
       coords : (ds : List Coord) → list_all (is_coord fields scope) ds ≡ true
-          → in_coords nothing (strides root) ds ≡ false
+          → in_coords no_name (strides root) ds ≡ false
           → windows hidden ds ≡ false
       coords [] k h = refl
       coords (At e ∷ ds) k h =
           let p = and_parts (is_control fields plainly scope e) (list_all (is_coord fields scope) ds) k in
-          let q = or_parts (in_control nothing (strides root) e) (in_coords nothing (strides root) ds) h in
+          let q = or_parts (in_control no_name (strides root) e) (in_coords no_name (strides root) ds) h in
           two _ _ (control plainly e p.0 q.0) (coords ds p.1 q.1)
       coords (Span e f ∷ ds) k h =
           let one = is_control fields plainly scope e && is_control fields plainly scope f in
           let p = and_parts one (list_all (is_coord fields scope) ds) k in
           let s = and_parts (is_control fields plainly scope e) (is_control fields plainly scope f) p.0 in
-          let q = or_parts (in_control nothing (strides root) e)
-          (in_control nothing (strides root) f || in_coords nothing (strides root) ds) h in
-          let t = or_parts (in_control nothing (strides root) f) (in_coords nothing (strides root) ds) q.1 in
+          let q = or_parts (in_control no_name (strides root) e)
+          (in_control no_name (strides root) f || in_coords no_name (strides root) ds) h in
+          let t = or_parts (in_control no_name (strides root) f) (in_coords no_name (strides root) ds) q.1 in
           two _ _ (control plainly e s.0 q.0) (two _ _ (control plainly f s.1 t.0) (coords ds p.1 t.1))
 
       window : (y : ℕ) (ds : List Coord) → is_window fields scope y ds ≡ true
-          → in_coords nothing (strides root) ds ≡ false
+          → in_coords no_name (strides root) ds ≡ false
           → (hidden (name_on a x cs y) || windows hidden (cond (y == x) (coords_on cs ds) ds)) ≡ false
       window y ds k h =
           two _ _ (name_gone y)
@@ -382,13 +384,13 @@ module _ (fields : ℕ → Option Kind) (memories : ℕ) (callees : ℕ → Opti
           → does hidden (converted_statement a x cs d) ≡ false
       left_of_step scope root (Assign y is e) buffer own free_of ok h =
           let p = and_parts (is_access fields scope y is) (is_datum fields scope e) ok in
-          let q = or_parts (in_controls nothing (strides root) is) (in_datum nothing (strides root) e) h in
+          let q = or_parts (in_controls no_name (strides root) is) (in_datum no_name (strides root) e) h in
           let k = (and_parts (has_rank (length is) (sort_in scope y)) _ p.0).1 in
           two _ _ (name_gone y) (two _ _ (at_gone y is (controls scope root buffer own is k q.0))
           (datum scope root buffer own e p.1 q.1))
       left_of_step scope root (Reduce y is e) buffer own free_of ok h =
           let p = and_parts (is_access fields scope y is) (is_datum fields scope e) ok in
-          let q = or_parts (in_controls nothing (strides root) is) (in_datum nothing (strides root) e) h in
+          let q = or_parts (in_controls no_name (strides root) is) (in_datum no_name (strides root) e) h in
           let k = (and_parts (has_rank (length is) (sort_in scope y)) _ p.0).1 in
           two _ _ (name_gone y) (two _ _ (at_gone y is (controls scope root buffer own is k q.0))
           (datum scope root buffer own e p.1 q.1))
@@ -403,7 +405,7 @@ module _ (fields : ℕ → Option Kind) (memories : ℕ) (callees : ℕ → Opti
           let s = and_parts (is b) (is d) q.1 in
           let m = or_parts (has_binder b x) (has_binder d x) free_of in
           let u = uses_strides callees sees root in
-          let n = or_parts (in_condition nothing (strides root) c) (u b r || u d r) h in
+          let n = or_parts (in_condition no_name (strides root) c) (u b r || u d r) h in
           let o = or_parts (u b r) (u d r) n.1 in
           two _ _ (condition scope root buffer own with_fields c p.0 n.0)
           (two _ _ (left_of_block scope root b buffer own m.0 s.0 o.0)
@@ -418,8 +420,8 @@ module _ (fields : ℕ → Option Kind) (memories : ℕ) (callees : ℕ → Opti
           let s = and_parts (not (is_empty b) && is_short b) is q.1 in
           let m = or_parts (x == i.id) (has_binder b x) free_of in
           let u = uses_strides callees sees root b r in
-          let n = or_parts (in_control nothing (strides root) lo) (in_control nothing (strides root) hi || u) h in
-          let o = or_parts (in_control nothing (strides root) hi) u n.1 in
+          let n = or_parts (in_control no_name (strides root) lo) (in_control no_name (strides root) hi || u) h in
+          let o = or_parts (in_control no_name (strides root) hi) u n.1 in
           let there =
           ap (λ t. is_buffer_sort (cond t (Some (ControlName Index)) (sort_in scope x))) m.0 ∙ buffer in
           two _ _ (flipped i.id m.0) (two _ _ (control scope root buffer own plainly lo e.0 n.0)

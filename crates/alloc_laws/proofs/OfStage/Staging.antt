@@ -50,7 +50,7 @@ use Rattle.cursor_forward.specs.Causes.{NotOnlyReduced, Form, WideNumber}
 use Rattle.buffer_laws.specs.MadeIndices.{made_simpler}
 use Rattle.buffer_laws.proofs.MadeIndices.{made_simpler_law}
 use Rattle.buffer_laws.specs.StageMem.{Staging, sizes, loads, stores, staged_block, is_view_used}
-use Rattle.buffer_laws.specs.StageMem.{is_aliased, is_only_reduced, has_span_at_point, whole_coords}
+use Rattle.buffer_laws.specs.StageMem.{is_aliased, is_only_reduced, has_span_at_point}
 use Rattle.buffer_laws.specs.StageLaws.{as_made, reader_as_made}
 use Rattle.buffer_laws.specs.StageAccum.{OnlyAdds, sums_as_made}
 use Rattle.buffer_laws.proofs.OnlyAdds.{only_adds_at_place}
@@ -94,6 +94,7 @@ use Rattle.alloc_laws.proofs.Here.{Names, names_of, less_control, top_binds}
 use Rattle.alloc_laws.proofs.OfStage.Asked.{first_met, second_met, met_at, hold_there, window_there}
 use Rattle.alloc_laws.proofs.OfStage.Left.{left_of_block}
 use Rattle.alloc_laws.proofs.OfStage.Names.{is_buffer_sort, is_buffer_in, HaveRoots, roots_there}
+use Rattle.match_laws.specs.Names.{whole_of}
 
 some_same : {A : Type 0} {a b : A} → Some a ≡ Some b → a ≡ b
 some_same e = cc
@@ -181,7 +182,7 @@ coords_open hidden y (Span e f ∷ cs) h k =
 module _ (x : ℕ) (dims : List Control) (coords : List Coord) where
   passed_spans : (gs : List Argument) → list_any (argument_spans x dims coords) gs ≡ false
       → list_any (is_whole x) gs ≡ true
-      → has_span_at_point coords (whole_coords dims) ≡ false
+      → has_span_at_point coords (whole_of dims) ≡ false
   passed_spans [] h k = absurd (true≢false (sym k))
   passed_spans (ControlArg e ∷ gs) h k = passed_spans gs h k
   passed_spans (ConditionArg c ∷ gs) h k = passed_spans gs h k
@@ -190,14 +191,14 @@ module _ (x : ℕ) (dims : List Control) (coords : List Coord) where
       (list_any (argument_spans x dims coords) gs) h).1 k
   passed_spans (Whole y ∷ gs) h k =
       let p =
-      or_parts ((y == x) && has_span_at_point coords (whole_coords dims))
+      or_parts ((y == x) && has_span_at_point coords (whole_of dims))
       (list_any (argument_spans x dims coords) gs) h in
       either (y == x) (list_any (is_whole x) gs) k
-      (and_left_false (y == x) (has_span_at_point coords (whole_coords dims)) p.0)
+      (and_left_false (y == x) (has_span_at_point coords (whole_of dims)) p.0)
       (passed_spans gs p.1)
 
   step_spans : (d : Statement) → step_has_spans x dims coords d ≡ false → passes_whole x d ≡ true
-      → has_span_at_point coords (whole_coords dims) ≡ false
+      → has_span_at_point coords (whole_of dims) ≡ false
   step_spans (Assign y is e) h k = absurd (true≢false (sym k))
   step_spans (Reduce y is e) h k = absurd (true≢false (sym k))
   step_spans (Config f g) h k = absurd (true≢false (sym k))

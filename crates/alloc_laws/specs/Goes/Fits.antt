@@ -23,8 +23,9 @@ use Rattle.buffer_laws.specs.Staging.Known.{AreOver, IsKnown}
 use Rattle.buffer_laws.specs.Staging.Converted.{FitsWithin}
 use Rattle.buffer_laws.specs.StageAccum.{OnlyAdds}
 use Rattle.buffer_laws.specs.Sums.{between_sums}
-use Rattle.buffer_laws.specs.StageMem.{asked_of_coords, whole_coords, has_span_at_point}
+use Rattle.buffer_laws.specs.StageMem.{asked_of_coords, has_span_at_point}
 use Rattle.buffer_laws.specs.Stride.OnView.{AllHold, LiesWithin}
+use Rattle.match_laws.specs.Names.{whole_of}
 
 -- ---- trees
 
@@ -102,22 +103,15 @@ is_whole x (Window y ds) = false
 
 -- the statement passes x whole
 abbrev pub passes_whole : ℕ → Statement → Bool
-passes_whole x (Assign y is d) = false
-passes_whole x (Reduce y is d) = false
-passes_whole x (Config f g) = false
-passes_whole x Pass = false
-passes_whole x (If c b d) = false
-passes_whole x (For i lo hi b) = false
-passes_whole x (Alloc y cell dims memory) = false
-passes_whole x (View w y ds) = false
 passes_whole x (Call k gs) = list_any (is_whole x) gs
+passes_whole x _ = false
 
 -- an access of x has a span where the window has a point; dims: the dimensions of a whole x
 module _ (x : ℕ) (dims : List Control) (coords : List Coord) where
   abbrev pub argument_spans : Argument → Bool
   argument_spans (ControlArg e) = false
   argument_spans (ConditionArg c) = false
-  argument_spans (Whole y) = (y == x) && has_span_at_point coords (whole_coords dims)
+  argument_spans (Whole y) = (y == x) && has_span_at_point coords (whole_of dims)
   argument_spans (Window y ds) = (y == x) && has_span_at_point coords ds
 
   abbrev mutual
@@ -158,7 +152,7 @@ pub record IsWhole (x : ℕ) (dims : List Control) (coords : List Coord) (scene 
   pub there : scene.views x ≡ Some seen
   pub sizes : numbers scene dims ≡ extents seen.sides
   pub long : length coords ≡ length dims
-  pub spans : has_span_at_point coords (whole_coords dims) ≡ false
+  pub spans : has_span_at_point coords (whole_of dims) ≡ false
   pub window : IsSome (window scene x coords)
 
 -- where what is asked of a whole x holds, the window is all of it
@@ -166,7 +160,7 @@ abbrev pub WholeLaw : Type 0
 WholeLaw =
     (x : ℕ) (dims : List Control) (coords : List Coord) (scene : Scene)
     → IsWhole x dims coords scene
-    → AllHold scene (asked_of_coords coords (whole_coords dims))
+    → AllHold scene (asked_of_coords coords (whole_of dims))
     → window scene x coords ≡ scene.views x
 
 -- ---- a block

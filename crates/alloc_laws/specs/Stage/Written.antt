@@ -6,9 +6,10 @@ use Rattle.exo_tree.specs.Tree.{Select, Coord, At, Span, Argument, ControlArg, C
 use Rattle.exo_tree.specs.Tree.{Window, Statement, Assign, Reduce, Config, Pass, If, For, Alloc}
 use Rattle.exo_tree.specs.Tree.{View, Call, Block, end, next}
 use Rattle.affine_forms.specs.Forms.{is_affine, is_writable}
-use Rattle.buffer_laws.specs.MadeIndices.{as_themselves, variables_alone, made_simpler}
+use Rattle.buffer_laws.specs.MadeIndices.{as_themselves, made_simpler}
 use Rattle.buffer_laws.specs.Staging.Converted.{indices_on, coords_on, name_on}
 use Rattle.step_rules.specs.Rule.{Writing, AsMade, Simplified}
+use Rattle.affine_places.specs.Roots.{variables}
 
 -- ---- single expressions
 
@@ -19,7 +20,7 @@ written_as Simplified e = made_simpler e
 -- the normal form can be written down, where it is asked for
 abbrev pub is_written : Writing → Control → Bool
 is_written AsMade e = true
-is_written Simplified e = not (is_affine variables_alone e) || is_writable as_themselves e
+is_written Simplified e = not (is_affine variables e) || is_writable as_themselves e
 
 abbrev pub are_written : Writing → List Control → Bool
 are_written how es = list_all (is_written how) es

@@ -17,13 +17,15 @@ use Rattle.exo_meaning.specs.Run.{World, run, step, argument_number, turn, turns
 use Rattle.exo_meaning.specs.Run.{count, choose, call_to, tensor, roots_after}
 use Rattle.inplace_laws.specs.Uses.{in_control, in_condition}
 use Rattle.place_laws.proofs.OfScope.Roots.{roots_next}
-use Rattle.buffer_laws.specs.Stride.Strides.{nothing, names_of, arguments_use, uses_strides}
+use Rattle.buffer_laws.specs.Stride.Strides.{arguments_use, uses_strides}
 use Rattle.buffer_laws.specs.Stride.Strides.{step_uses_strides, HaveOneSize, SameButStrides, WhereBoth}
 use Rattle.buffer_laws.specs.Stride.Strides.{UsesNone, CallsAreBlind, BlindBlockLaw}
 use Rattle.buffer_laws.proofs.OfStride.Strides.{where_then, where_map, where_and, where_tests, where_equal}
 use Rattle.buffer_laws.proofs.OfStride.Strides.{first_none, second_none, number_same, numbers_same, holds_same}
 use Rattle.buffer_laws.proofs.OfStride.Strides.{window_same, argument_same, store_where}
 use Rattle.buffer_laws.proofs.OfStride.Calls.{call_both}
+use Rattle.buffer_laws.specs.Staging.Alone.{has_root}
+use Rattle.inplace_laws.specs.CallInPlace.{no_name}
 
 module _ (blind : ℕ → Bool) where
   left_cells : (o q : Option Shape) → Both HaveOneSize o q → (c d : List ℤ → Value) → c ≡ d
@@ -165,7 +167,7 @@ module _ (blind : ℕ → Bool) where
           (Some (on_scene (with_field f m) t)) (field_same s t h f m)))
       step_both Pass root u s t roots h = h
       step_both (If c a b) root u s t roots h =
-          let test = λ (y : ℕ). in_condition nothing (names_of root y) c in
+          let test = λ (y : ℕ). in_condition no_name (has_root root y) c in
           let both = λ (y : ℕ). uses root a y || uses root b y in
           let v = second_none blind test both u in
           where_map (SameButStrides blind) (SameButStrides blind)
@@ -177,8 +179,8 @@ module _ (blind : ℕ → Bool) where
           (run_both b root (second_none blind (uses root a) (uses root b) v)) s t roots h)
           (left_same s t h)
       step_both (For i lo hi b) root u s t roots h =
-          let low = λ (y : ℕ). in_control nothing (names_of root y) lo in
-          let high = λ (y : ℕ). in_control nothing (names_of root y) hi in
+          let low = λ (y : ℕ). in_control no_name (has_root root y) lo in
+          let high = λ (y : ℕ). in_control no_name (has_root root y) hi in
           let others = λ (y : ℕ). high y || uses root b y in
           let v = second_none blind low others u in
           subst (λ ns. WhereBoth (SameButStrides blind) (step world (For i lo hi b) s)

@@ -18,12 +18,14 @@ use Rattle.exo_meaning.specs.Run.{is_root, call_writes, call_to}
 use Rattle.exo_meaning.proofs.Frame.{if_then, if_map, if_weaken, any, root_of, window_root}
 use Rattle.exo_meaning.proofs.Windows.{none_is_some, one_value}
 use Rattle.inplace_laws.specs.Uses.{in_controls}
-use Rattle.buffer_laws.specs.Stride.Strides.{nothing, names_of, arguments_use, kind_uses, params_use}
+use Rattle.buffer_laws.specs.Stride.Strides.{arguments_use, kind_uses, params_use}
 use Rattle.buffer_laws.specs.Stride.Strides.{HaveOneSize, SameButStrides, WhereBoth, UsesNone}
 use Rattle.buffer_laws.specs.Stride.Strides.{CalleeIsBlind}
 use Rattle.buffer_laws.proofs.OfStride.Strides.{where_then, where_map, where_tests}
 use Rattle.buffer_laws.proofs.OfStride.Strides.{where_equal, first_none, second_none, strides_same}
 use Rattle.buffer_laws.proofs.OfStride.Strides.{numbers_same, all_given_same}
+use Rattle.buffer_laws.specs.Staging.Alone.{has_root}
+use Rattle.inplace_laws.specs.CallInPlace.{no_name}
 
 -- ---- parameters that get a part of a blind buffer
 
@@ -165,7 +167,7 @@ module _ (root : ℕ → ℕ) (blind : ℕ → Bool) (s t : State) (roots : HasR
         (made_enters i j e x cell dims seen less))
 
     dims_same : (i j : State) → Enters i j → (dims : List Control)
-        → UsesNone inner (λ y. in_controls nothing (names_of (λ x. x) y) dims)
+        → UsesNone inner (λ y. in_controls no_name (has_root (λ x. x) y) dims)
         → numbers i.scene dims ≡ numbers j.scene dims
     dims_same i j e dims u = numbers_same (λ x. x) inner i j e.0 e.1 dims u
 

@@ -43,9 +43,10 @@ use Rattle.buffer_laws.specs.Stride.OnView.{LiesWithin}
 use Rattle.buffer_laws.specs.Stride.Passed.{ArePassed, PassedReplaces, PassedReaderReplaces}
 use Rattle.buffer_laws.specs.Stride.Passed.{FitsBehindPassed}
 use Rattle.buffer_laws.specs.Stride.Staged.{MayStageBlind}
-use Rattle.buffer_laws.specs.Stride.Strides.{nothing, WhereBoth, CallsAreBlind}
+use Rattle.buffer_laws.specs.Stride.Strides.{WhereBoth, CallsAreBlind}
 use Rattle.buffer_laws.proofs.OfStride.Staged.{blind_staged_law}
 use Rattle.buffer_laws.proofs.OfStride.ViewedRuns.{on_view_law}
+use Rattle.inplace_laws.specs.CallInPlace.{no_name}
 
 module _ (world : World) (sees : ℕ → ℕ → Bool) (root : ℕ → ℕ) (a : Binder) (cell : Cell)
     (dims : List Control) (memory x : ℕ) (coords : List Coord) (ls ks : List Loop) (b : Block)
@@ -114,7 +115,7 @@ module _ (world : World) (sees : ℕ → ℕ → Bool) (root : ℕ → ℕ) (a :
     of_nothing : MayStage hidden is_new world (updated root a.id a.id) a.id seen to end s
     of_nothing = alone_law is_new world root a.id seen to end s k.alone
 
-    shows_none : in_block hidden nothing inner ≡ false
+    shows_none : in_block hidden no_name inner ≡ false
     shows_none = block hidden inner ∙ ap (λ n. mentions (has_root (updated root a.id a.id) n) inner)
         root_is ∙ made.names
 
@@ -130,7 +131,7 @@ module _ (world : World) (sees : ℕ → ℕ → Bool) (root : ℕ → ℕ) (a :
       names = shows_none;
       not_made = not_made inner a.id made.own;
       roots = of_nothing.roots;
-      not_written = unwritten_law hidden nothing world (updated root a.id a.id) inner seen.buffer
+      not_written = unwritten_law hidden no_name world (updated root a.id a.id) inner seen.buffer
           of_nothing.hides (λ y h. h) shows_none;
       strides = made.strides;
     }

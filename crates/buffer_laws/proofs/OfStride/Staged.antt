@@ -12,11 +12,12 @@ use Rattle.exo_meaning.proofs.Frame.{others_are_kept, updated_other}
 use Rattle.exo_meaning.proofs.Windows.{none_is_some, one_value, cell_at_index}
 use Rattle.inplace_laws.specs.InPlace.{through, held_through, IsWithin, IsPlacing, SeenStands, BufferStands, StandsFor, makes}
 use Rattle.inplace_laws.specs.Staged.{staged, StagedAlike}
-use Rattle.buffer_laws.specs.Stride.Strides.{nothing, uses_strides, HaveOneSize, SameButStrides, WhereBoth}
+use Rattle.buffer_laws.specs.Stride.Strides.{uses_strides, HaveOneSize, SameButStrides, WhereBoth}
 use Rattle.buffer_laws.specs.Stride.Staged.{staged_with, MayStageBlind, BlindStagedLaw}
 use Rattle.buffer_laws.proofs.OfStride.Blocks.{blind_block_law}
 use Rattle.inplace_laws.proofs.Sides.{whole_within, composed_whole}
 use Rattle.inplace_laws.proofs.InPlace.{in_place}
+use Rattle.inplace_laws.specs.CallInPlace.{no_name}
 
 module _ (hidden : ℕ → Bool) (world : World) (sees : ℕ → ℕ → Bool) (root : ℕ → ℕ) (a : ℕ)
     (seen : Seen) (to : Shape) (b : Block) (s : State)
@@ -69,7 +70,7 @@ module _ (hidden : ℕ → Bool) (world : World) (sees : ℕ → ℕ → Bool) (
   base_else y e = ap (λ t. cond {A = Option Seen} t (Some seen) None) e
 
   abbrev Sees : Seen → Seen → Type 0
-  Sees = SeenStands hidden all nothing strided base s
+  Sees = SeenStands hidden all no_name strided base s
 
   sees_a : Sees (record { buffer = a; sides = whole (extents seen.sides) }) seen
   sees_a = (may.shown, subst (λ o. IsWithin o (whole (extents seen.sides))) (sym base_a) (whole_within seen.sides), ap (λ l. record { buffer = seen.buffer; sides = l }) (sym (composed_whole seen.sides)) ∙ ap (λ o. through o (record { buffer = a; sides = whole (extents seen.sides) })) (sym base_a))
@@ -91,7 +92,7 @@ module _ (hidden : ℕ → Bool) (world : World) (sees : ℕ → ℕ → Bool) (
     strides = strides_of seen.sides to.strides;
   }
 
-  buffer_stands : (y : ℕ) (t : Bool) → (y == a) ≡ t → BufferStands hidden all nothing strided base s (cond {A = Option Seen} t (Some seen) None) (cond t (Some shape) (s.scene.buffers y)) s.scene.buffers y
+  buffer_stands : (y : ℕ) (t : Bool) → (y == a) ≡ t → BufferStands hidden all no_name strided base s (cond {A = Option Seen} t (Some seen) None) (cond t (Some shape) (s.scene.buffers y)) s.scene.buffers y
   buffer_stands y true e = (shape, to, refl, may.there, refl, λ st. refl)
   buffer_stands y false e = refl
 
@@ -99,7 +100,7 @@ module _ (hidden : ℕ → Bool) (world : World) (sees : ℕ → ℕ → Bool) (
   cell_stands y at true = refl
   cell_stands y at false = refl
 
-  pub stands : StandsFor hidden all nothing strided base s inner outer
+  pub stands : StandsFor hidden all no_name strided base s inner outer
   stands = record {
     control = λ y k. refl;
     fields = refl;
@@ -110,7 +111,7 @@ module _ (hidden : ℕ → Bool) (world : World) (sees : ℕ → ℕ → Bool) (
     cells = record { own = λ y k at. cell_stands y at (y == a); left = λ y at k i l. refl };
   }
 
-  alike : (t u : State) → StandsFor hidden all nothing strided base s t u → IsKept seen.buffer inner t → StagedAlike a seen s t u
+  alike : (t u : State) → StandsFor hidden all no_name strided base s t u → IsKept seen.buffer inner t → StagedAlike a seen s t u
   alike t u h kept = record { fields = h.fields; cells = λ y at i. by_name y at i (hidden y) refl }
     where
       -- the window's buffer was left alone
@@ -129,7 +130,7 @@ module _ (hidden : ℕ → Bool) (world : World) (sees : ℕ → ℕ → Bool) (
           apart false k = refl
           apart true k = absurd (true≢false (sym may.hides ∙ ap hidden (sym (eqb-true y seen.buffer k)) ∙ e))
 
-  both_kept : (o q : Option State) → Both (StandsFor hidden all nothing strided base s) o q → IfSome o (IsKept seen.buffer inner) → Both (StagedAlike a seen s) o q
+  both_kept : (o q : Option State) → Both (StandsFor hidden all no_name strided base s) o q → IfSome o (IsKept seen.buffer inner) → Both (StagedAlike a seen s) o q
   both_kept None None h k = tt
   both_kept None (Some u) h k = absurd h
   both_kept (Some t) None h k = absurd h
@@ -161,7 +162,7 @@ module _ (hidden : ℕ → Bool) (world : World) (sees : ℕ → ℕ → Bool) (
 
   in_strides : Both (StagedAlike a seen s) (run world b inner) (run world b outer)
   in_strides = both_kept (run world b inner) (run world b outer)
-      (in_place world hidden all nothing strided base root b s inner outer placing may.names
+      (in_place world hidden all no_name strided base root b s inner outer placing may.names
       (λ y e. absurd (true≢false e)) none_made may.roots stands)
       (others_are_kept world root b seen.buffer inner may.roots still_there may.not_written)
 

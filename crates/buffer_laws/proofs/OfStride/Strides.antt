@@ -20,8 +20,10 @@ use Rattle.exo_meaning.specs.Laws.{HasRoots}
 use Rattle.exo_meaning.specs.Refines.{Both}
 use Rattle.exo_meaning.proofs.Frame.{or_parts}
 use Rattle.inplace_laws.specs.Uses.{in_control, in_controls, in_condition, in_datum, in_coords}
-use Rattle.buffer_laws.specs.Stride.Strides.{nothing, names_of, argument_uses, arguments_use, HaveOneSize}
+use Rattle.buffer_laws.specs.Stride.Strides.{argument_uses, arguments_use, HaveOneSize}
 use Rattle.buffer_laws.specs.Stride.Strides.{SameButStrides, WhereBoth, UsesNone}
+use Rattle.buffer_laws.specs.Staging.Alone.{has_root}
+use Rattle.inplace_laws.specs.CallInPlace.{no_name}
 
 -- ---- both ends
 
@@ -75,19 +77,19 @@ module _ (root : ℕ → ℕ) (blind : ℕ → Bool) (s t : State) (roots : HasR
     (h : SameButStrides blind s t) where
   -- whether it looks at a stride of y
   abbrev control_of : Control → ℕ → Bool
-  control_of e y = in_control nothing (names_of root y) e
+  control_of e y = in_control no_name (has_root root y) e
 
   abbrev controls_of : List Control → ℕ → Bool
-  controls_of es y = in_controls nothing (names_of root y) es
+  controls_of es y = in_controls no_name (has_root root y) es
 
   abbrev condition_of : Condition → ℕ → Bool
-  condition_of c y = in_condition nothing (names_of root y) c
+  condition_of c y = in_condition no_name (has_root root y) c
 
   abbrev coords_of : List Coord → ℕ → Bool
-  coords_of cs y = in_coords nothing (names_of root y) cs
+  coords_of cs y = in_coords no_name (has_root root y) cs
 
   abbrev datum_of : Datum → ℕ → Bool
-  datum_of d y = in_datum nothing (names_of root y) d
+  datum_of d y = in_datum no_name (has_root root y) d
 
   pub strides_same : (seen : Seen) → blind seen.buffer ≡ false
       → strides_seen s.scene seen ≡ strides_seen t.scene seen

@@ -25,8 +25,10 @@ use Rattle.buffer_laws.specs.Staging.Converted.{converted_datum, converted_argum
 use Rattle.buffer_laws.specs.Staging.Converted.{converted_statement}
 use Rattle.buffer_laws.proofs.OfStaging.ReadsOn.{other, on_a, Keeps, call_on, after}
 use Rattle.buffer_laws.specs.Stride.Refusals.{StridesOnLaw}
-use Rattle.buffer_laws.specs.Stride.Strides.{nothing, names_of, argument_uses, arguments_use, uses_strides}
+use Rattle.buffer_laws.specs.Stride.Strides.{argument_uses, arguments_use, uses_strides}
 use Rattle.buffer_laws.specs.Stride.Strides.{step_uses_strides}
+use Rattle.buffer_laws.specs.Staging.Alone.{has_root}
+use Rattle.inplace_laws.specs.CallInPlace.{no_name}
 
 none : (t u v w : Bool) → (t ≡ false → v ≡ false) → (u ≡ false → w ≡ false)
     → (t || u) ≡ false → (v || w) ≡ false
@@ -34,7 +36,7 @@ none t u v w f g h = let p = or_parts t u h in ap₂ ◌||◌ (f p.0) (g p.1)
 
 -- plain expressions use no strides
 module _ (of_a : ℕ → Bool) where
-  plain_control : (e : Control) → is_plain e ≡ true → uses.in_control nothing of_a e ≡ false
+  plain_control : (e : Control) → is_plain e ≡ true → uses.in_control no_name of_a e ≡ false
   plain_control (Lit n) h = refl
   plain_control (Var y) h = refl
   plain_control (Field f) h = refl
@@ -50,43 +52,43 @@ module _ (of_a : ℕ → Bool) where
   plain_control (Mod e c) h = plain_control e h
 
   indices_unused : (cs : List Coord) (is : List Control) → are_plain cs ≡ true
-      → uses.in_controls nothing of_a is ≡ false
-      → uses.in_controls nothing of_a (indices_on cs is) ≡ false
+      → uses.in_controls no_name of_a is ≡ false
+      → uses.in_controls no_name of_a (indices_on cs is) ≡ false
   indices_unused [] is p h = refl
   indices_unused (At u ∷ cs) [] p h = refl
   indices_unused (Span u v ∷ cs) [] p h = refl
   indices_unused (At u ∷ cs) (e ∷ is) p h =
       indices_unused cs is (and_parts (is_plain u) (are_plain cs) p).1
-      (or_parts (uses.in_control nothing of_a e) _ h).1
+      (or_parts (uses.in_control no_name of_a e) _ h).1
   indices_unused (Span u v ∷ cs) (e ∷ is) p h =
       let q = and_parts (is_plain u) (is_plain v && are_plain cs) p in
       let r = and_parts (is_plain v) (are_plain cs) q.1 in
-      let k = or_parts (uses.in_control nothing of_a e) _ h in
+      let k = or_parts (uses.in_control no_name of_a e) _ h in
       ap₂ ◌||◌ (ap₂ ◌||◌ k.0 (plain_control u q.0)) (indices_unused cs is r.1 k.1)
 
   coords_unused : (cs ds : List Coord) → are_plain cs ≡ true
-      → uses.in_coords nothing of_a ds ≡ false
-      → uses.in_coords nothing of_a (coords_on cs ds) ≡ false
+      → uses.in_coords no_name of_a ds ≡ false
+      → uses.in_coords no_name of_a (coords_on cs ds) ≡ false
   coords_unused [] ds p h = refl
   coords_unused (At u ∷ cs) [] p h = refl
   coords_unused (Span u v ∷ cs) [] p h = refl
   coords_unused (At u ∷ cs) (At e ∷ ds) p h =
       coords_unused cs ds (and_parts (is_plain u) (are_plain cs) p).1
-      (or_parts (uses.in_control nothing of_a e) _ h).1
+      (or_parts (uses.in_control no_name of_a e) _ h).1
   coords_unused (At u ∷ cs) (Span e f ∷ ds) p h =
-      let k = or_parts (uses.in_control nothing of_a e) _ h in
+      let k = or_parts (uses.in_control no_name of_a e) _ h in
       coords_unused cs ds (and_parts (is_plain u) (are_plain cs) p).1
-      (or_parts (uses.in_control nothing of_a f) _ k.1).1
+      (or_parts (uses.in_control no_name of_a f) _ k.1).1
   coords_unused (Span u v ∷ cs) (At e ∷ ds) p h =
       let q = and_parts (is_plain u) (is_plain v && are_plain cs) p in
       let r = and_parts (is_plain v) (are_plain cs) q.1 in
-      let k = or_parts (uses.in_control nothing of_a e) _ h in
+      let k = or_parts (uses.in_control no_name of_a e) _ h in
       ap₂ ◌||◌ (ap₂ ◌||◌ k.0 (plain_control u q.0)) (coords_unused cs ds r.1 k.1)
   coords_unused (Span u v ∷ cs) (Span e f ∷ ds) p h =
       let q = and_parts (is_plain u) (is_plain v && are_plain cs) p in
       let r = and_parts (is_plain v) (are_plain cs) q.1 in
-      let k = or_parts (uses.in_control nothing of_a e) _ h in
-      let l = or_parts (uses.in_control nothing of_a f) _ k.1 in
+      let k = or_parts (uses.in_control no_name of_a e) _ h in
+      let l = or_parts (uses.in_control no_name of_a f) _ k.1 in
       ap₂ ◌||◌ (ap₂ ◌||◌ k.0 (plain_control u q.0))
       (ap₂ ◌||◌ (ap₂ ◌||◌ l.0 (plain_control u q.0)) (coords_unused cs ds r.1 l.1))
 
@@ -105,13 +107,13 @@ module _ (called : ℕ → Option Callee) (sees : ℕ → ℕ → Bool) (a x : �
   module _ (root new : ℕ → ℕ) (keeps : Keeps world a x coords rx root new)
       (holds : Holds root new) where
     abbrev of_x : ℕ → Bool
-    of_x = names_of root rx
+    of_x = has_root root rx
 
     abbrev of_a : ℕ → Bool
-    of_a = names_of new a
+    of_a = has_root new a
 
     control : (e : Control) → seen.in_control is_a e ≡ false
-        → uses.in_control nothing of_x e ≡ false → uses.in_control nothing of_a e ≡ false
+        → uses.in_control no_name of_x e ≡ false → uses.in_control no_name of_a e ≡ false
     control (Lit n) k h = refl
     control (Var y) k h = refl
     control (Field f) k h = refl
@@ -127,20 +129,20 @@ module _ (called : ℕ → Option Callee) (sees : ℕ → ℕ → Bool) (a x : �
     control (Mod e c) k h = control e k h
 
     controls : (es : List Control) → seen.in_controls is_a es ≡ false
-        → uses.in_controls nothing of_x es ≡ false → uses.in_controls nothing of_a es ≡ false
+        → uses.in_controls no_name of_x es ≡ false → uses.in_controls no_name of_a es ≡ false
     controls [] k h = refl
     controls (e ∷ es) k h =
         let p = or_parts (seen.in_control is_a e) (seen.in_controls is_a es) k in
         none _ _ _ _ (control e p.0) (controls es p.1) h
 
     two : (d e : Control) → (seen.in_control is_a d || seen.in_control is_a e) ≡ false
-        → (uses.in_control nothing of_x d || uses.in_control nothing of_x e) ≡ false
-        → (uses.in_control nothing of_a d || uses.in_control nothing of_a e) ≡ false
+        → (uses.in_control no_name of_x d || uses.in_control no_name of_x e) ≡ false
+        → (uses.in_control no_name of_a d || uses.in_control no_name of_a e) ≡ false
     two d e k h = let p = or_parts (seen.in_control is_a d) (seen.in_control is_a e) k in
         none _ _ _ _ (control d p.0) (control e p.1) h
 
     condition : (c : Condition) → seen.in_condition is_a c ≡ false
-        → uses.in_condition nothing of_x c ≡ false → uses.in_condition nothing of_a c ≡ false
+        → uses.in_condition no_name of_x c ≡ false → uses.in_condition no_name of_a c ≡ false
     condition True k h = refl
     condition False k h = refl
     condition (Flag y) k h = refl
@@ -158,7 +160,7 @@ module _ (called : ℕ → Option Callee) (sees : ℕ → ℕ → Bool) (a x : �
         none _ _ _ _ (condition c p.0) (condition d p.1) h
 
     coords_free : (ds : List Coord) → seen.in_coords is_a ds ≡ false
-        → uses.in_coords nothing of_x ds ≡ false → uses.in_coords nothing of_a ds ≡ false
+        → uses.in_coords no_name of_x ds ≡ false → uses.in_coords no_name of_a ds ≡ false
     coords_free [] k h = refl
     coords_free (At e ∷ ds) k h =
         let p = or_parts (seen.in_control is_a e) (seen.in_coords is_a ds) k in
@@ -169,26 +171,26 @@ module _ (called : ℕ → Option Callee) (sees : ℕ → ℕ → Bool) (a x : �
         none _ _ _ _ (control e p.0) (none _ _ _ _ (control f q.0) (coords_free ds q.1)) h
 
     indices : (y : ℕ) (is : List Control) → seen.in_controls is_a is ≡ false
-        → uses.in_controls nothing of_x is ≡ false
-        → uses.in_controls nothing of_a (indices_at a x coords y is) ≡ false
+        → uses.in_controls no_name of_x is ≡ false
+        → uses.in_controls no_name of_a (indices_at a x coords y is) ≡ false
     indices y is k h = go (y == x)
       where
         go : (t : Bool)
-            → uses.in_controls nothing of_a (cond t (indices_on coords is) is) ≡ false
+            → uses.in_controls no_name of_a (cond t (indices_on coords is) is) ≡ false
         go true = indices_unused of_a coords is plain (controls is k h)
         go false = controls is k h
 
     window_of : (y : ℕ) (ds : List Coord) → seen.in_coords is_a ds ≡ false
-        → uses.in_coords nothing of_x ds ≡ false
-        → uses.in_coords nothing of_a (coords_at a x coords y ds) ≡ false
+        → uses.in_coords no_name of_x ds ≡ false
+        → uses.in_coords no_name of_a (coords_at a x coords y ds) ≡ false
     window_of y ds k h = go (y == x)
       where
-        go : (t : Bool) → uses.in_coords nothing of_a (cond t (coords_on coords ds) ds) ≡ false
+        go : (t : Bool) → uses.in_coords no_name of_a (cond t (coords_on coords ds) ds) ≡ false
         go true = coords_unused of_a coords ds plain (coords_free ds k h)
         go false = coords_free ds k h
 
-    datum : (d : Datum) → seen.in_datum is_a d ≡ false → uses.in_datum nothing of_x d ≡ false
-        → uses.in_datum nothing of_a (converted_datum a x coords d) ≡ false
+    datum : (d : Datum) → seen.in_datum is_a d ≡ false → uses.in_datum no_name of_x d ≡ false
+        → uses.in_datum no_name of_a (converted_datum a x coords d) ≡ false
     datum (Const n) k h = refl
     datum (Read y is) k h = indices y is (or_parts (is_a y) (seen.in_controls is_a is) k).1 h
     datum (Negated d) k h = datum d k h

@@ -23,6 +23,7 @@ UnwrittenLaw =
 
 -- ---- a block on a staged buffer
 
+-- x is a name of buffer y, by the buffer of each name
 abbrev pub has_root : (ℕ → ℕ) → ℕ → ℕ → Bool
 has_root root y x = y == root x
 

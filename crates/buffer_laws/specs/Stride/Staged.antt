@@ -10,7 +10,8 @@ use Rattle.meaning_laws.specs.Sound.{IsSound, IsUnbound}
 use Rattle.inplace_laws.specs.InPlace.{makes}
 use Rattle.inplace_laws.specs.Staged.{staged, StagedAlike}
 use Rattle.inplace_laws.specs.Uses.{in_block}
-use Rattle.buffer_laws.specs.Stride.Strides.{nothing, uses_strides, WhereBoth, CallsAreBlind}
+use Rattle.buffer_laws.specs.Stride.Strides.{uses_strides, WhereBoth, CallsAreBlind}
+use Rattle.inplace_laws.specs.CallInPlace.{no_name}
 
 -- a buffer of its own with the cells of the window, and with these strides
 abbrev pub staged_with : List ℤ → ℕ → Seen → Shape → State → State
@@ -33,7 +34,7 @@ pub record MayStageBlind (hidden : ℕ → Bool) (world : World) (sees : ℕ →
   pub only : (y : ℕ) → hidden y ≡ true → IsSome (s.scene.buffers y) → y ≡ seen.buffer
   pub views : (y : ℕ) (z : Seen) → hidden y ≡ false → s.scene.views y ≡ Some z
       → hidden z.buffer ≡ false
-  pub names : in_block hidden nothing b ≡ false
+  pub names : in_block hidden no_name b ≡ false
   pub not_made : makes b a ≡ false
   pub roots : HasRoots root (staged a seen to s).scene
   pub not_written : writes world root b seen.buffer ≡ false

@@ -1,5 +1,5 @@
 -- Strides that a block looks at, and blocks that do not see others.
-use Rattle.std.specs.Prelude.{◌≡◌, ◌==◌, ◌||◌, ℕ, Bool, true, false, List, [], ◌∷◌, ◌++◌}
+use Rattle.std.specs.Prelude.{◌≡◌, ◌||◌, ℕ, Bool, true, false, List, [], ◌∷◌, ◌++◌}
 use Rattle.std.specs.Prelude.{Option, Some, None, slice_get}
 use Rattle.exo_tree.specs.Tree.{Kind, Argument, ControlArg, ConditionArg, Whole, Window, Param}
 use Rattle.exo_tree.specs.Tree.{ParamKind, ControlParam, TensorParam}
@@ -14,22 +14,17 @@ use Rattle.exo_meaning.specs.Modes.{call_has}
 use Rattle.exo_meaning.specs.Refines.{Both}
 use Rattle.exo_meaning.specs.Run.{World, run, roots_after, callee_in, world_of, unit_world}
 use Rattle.inplace_laws.specs.Uses.{in_control, in_controls, in_condition, in_datum, in_coords}
+use Rattle.buffer_laws.specs.Staging.Alone.{has_root}
+use Rattle.inplace_laws.specs.CallInPlace.{no_name}
 
 -- ---- trees
 
-abbrev pub nothing : ℕ → Bool
-nothing x = false
-
--- names of buffer y, by the buffer of each name
-abbrev pub names_of : (ℕ → ℕ) → ℕ → ℕ → Bool
-names_of root y x = y == root x
-
 -- a control expression that is passed, or in a window that is passed, looks at a stride of y
 abbrev pub argument_uses : (ℕ → ℕ) → ℕ → Argument → Bool
-argument_uses root y (ControlArg e) = in_control nothing (names_of root y) e
-argument_uses root y (ConditionArg c) = in_condition nothing (names_of root y) c
+argument_uses root y (ControlArg e) = in_control no_name (has_root root y) e
+argument_uses root y (ConditionArg c) = in_condition no_name (has_root root y) c
 argument_uses root y (Whole x) = false
-argument_uses root y (Window x coords) = in_coords nothing (names_of root y) coords
+argument_uses root y (Window x coords) = in_coords no_name (has_root root y) coords
 
 abbrev pub arguments_use : (ℕ → ℕ) → ℕ → List Argument → Bool
 arguments_use root y [] = false
@@ -46,18 +41,18 @@ module _ (called : ℕ → Option Callee) (sees : ℕ → ℕ → Bool) where
 
     pub step_uses_strides : (ℕ → ℕ) → Statement → ℕ → Bool
     step_uses_strides root (Assign x is d) y =
-        in_controls nothing (names_of root y) is || in_datum nothing (names_of root y) d
+        in_controls no_name (has_root root y) is || in_datum no_name (has_root root y) d
     step_uses_strides root (Reduce x is d) y =
-        in_controls nothing (names_of root y) is || in_datum nothing (names_of root y) d
+        in_controls no_name (has_root root y) is || in_datum no_name (has_root root y) d
     step_uses_strides root (Config f g) y = argument_uses root y g
     step_uses_strides root Pass y = false
     step_uses_strides root (If c a b) y =
-        in_condition nothing (names_of root y) c || (uses_strides root a y || uses_strides root b y)
+        in_condition no_name (has_root root y) c || (uses_strides root a y || uses_strides root b y)
     step_uses_strides root (For i lo hi b) y =
-        in_control nothing (names_of root y) lo
-        || (in_control nothing (names_of root y) hi || uses_strides root b y)
-    step_uses_strides root (Alloc x cell dims memory) y = in_controls nothing (names_of root y) dims
-    step_uses_strides root (View w x coords) y = in_coords nothing (names_of root y) coords
+        in_control no_name (has_root root y) lo
+        || (in_control no_name (has_root root y) hi || uses_strides root b y)
+    step_uses_strides root (Alloc x cell dims memory) y = in_controls no_name (has_root root y) dims
+    step_uses_strides root (View w x coords) y = in_coords no_name (has_root root y) coords
     step_uses_strides root (Call k gs) y =
         arguments_use root y gs || call_has (called k) (sees k) root y gs
 
@@ -70,8 +65,8 @@ is_stride_used called sees root x b = uses_strides called sees root b (root x)
 -- in the dimensions of parameters, where the rules allow none
 abbrev pub kind_uses : ℕ → ParamKind → Bool
 kind_uses y (ControlParam kind) = false
-kind_uses y (TensorParam cell dims memory) = in_controls nothing (names_of (λ x. x) y) dims
-kind_uses y (WindowParam cell dims memory) = in_controls nothing (names_of (λ x. x) y) dims
+kind_uses y (TensorParam cell dims memory) = in_controls no_name (has_root (λ x. x) y) dims
+kind_uses y (WindowParam cell dims memory) = in_controls no_name (has_root (λ x. x) y) dims
 
 abbrev pub params_use : ℕ → List Param → Bool
 params_use y [] = false
@@ -83,7 +78,7 @@ sees_strides world sees p x =
     params_use x p.params || uses_strides world.callees sees (λ y. y) p.body x
 
 abbrev pub sees_at : List (ℕ → Bool) → ℕ → ℕ → Bool
-sees_at ss k = elim (slice_get ss k) [ None ↦ nothing | Some f ↦ f ]
+sees_at ss k = elim (slice_get ss k) [ None ↦ no_name | Some f ↦ f ]
 
 abbrev pub all_see : (ℕ → Kind) → List Callee → List (ℕ → Bool) → List Procedure → List (ℕ → Bool)
 all_see kinds above ss [] = ss

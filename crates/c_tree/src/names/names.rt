@@ -50,14 +50,6 @@ fn own_numbered(alloc: Global, x: &str, k: usize) -> Result<Name, AllocError>
     Ok(Name::new(alloc, text.as_str())?)
 }
 
-/// Another name, with a number.
-fn other_numbered(alloc: Global, x: &str, k: usize) -> Result<Name, AllocError>
-    ensures { IfOk result (λ n. n ≡ x.now ++ codes "_" ++ decimal k) }
-{
-    let text = format!(in alloc; "{x}_{k}")?;
-    Ok(Name::new(alloc, text.as_str())?)
-}
-
 /// The name with a number.
 fn numbered(alloc: Global, x: &str, k: usize) -> Result<Name, AllocError>
     ensures { IfOk result (λ n. n ≡ names.numbered x.now k) }
@@ -66,7 +58,7 @@ fn numbered(alloc: Global, x: &str, k: usize) -> Result<Name, AllocError>
     if own {
         return own_numbered(alloc, x, k);
     }
-    other_numbered(alloc, x, k)
+    Name::numbered(alloc, x, k)
 }
 
 /// The name with the least number from 1 on that is not taken.

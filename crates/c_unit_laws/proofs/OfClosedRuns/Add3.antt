@@ -19,8 +19,9 @@ use Rattle.c_lowering.specs.Made.LoweredUnit.{Printing, is_listed, is_used, glob
 use Rattle.c_unit_laws.specs.Follows.SameInput.{AreSeparate}
 use Rattle.c_unit_laws.specs.Follows.Grounds.{declared_in}
 use Rattle.c_unit_laws.specs.Follows.Units.{IsListing, AreLowered, IsSameStart}
-use Rattle.c_unit_laws.specs.ClosedRuns.Add3.{add3, add3_program, add3_printed, by_argument, four_long, input, layout, object, machine, things, no_templates, Add3Runs}
+use Rattle.c_unit_laws.specs.ClosedRuns.Add3.{add3, add3_program, add3_printed, by_argument, four_long, input, layout, object, machine, things, Add3Runs}
 use Rattle.c_unit_laws.proofs.OfClosedRuns.Entries.{none_some, some_same, no_number, no_entry, machine_of, one_index}
+use Rattle.c_unit_laws.specs.Follows.Machine.Examples.{no_templates}
 
 -- ---- the C
 

@@ -18,9 +18,10 @@ use Rattle.c_unit_laws.specs.Follows.SameInput.{AreSeparate, IsSameWindow}
 use Rattle.c_unit_laws.specs.Follows.Grounds.{declared_in}
 use Rattle.c_unit_laws.specs.Follows.Units.{IsSameStart}
 use Rattle.c_unit_laws.specs.Instance.{column_program, both_printed}
-use Rattle.c_unit_laws.specs.ClosedRuns.FilledColumn.{column, input, layout, things, no_templates, FilledColumn}
+use Rattle.c_unit_laws.specs.ClosedRuns.FilledColumn.{column, input, layout, things, FilledColumn}
 use Rattle.c_unit_laws.proofs.OfClosedRuns.Entries.{none_some, some_same, no_number, no_entry, machine_of, one_index, one_in_range}
 use Rattle.c_unit_laws.specs.ColumnRun.{machine}
+use Rattle.c_unit_laws.specs.Follows.Machine.Examples.{no_templates}
 
 -- ---- the one buffer, which has the number 1
 

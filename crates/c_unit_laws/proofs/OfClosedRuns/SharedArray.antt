@@ -20,9 +20,10 @@ use Rattle.c_unit_laws.specs.Follows.Simulation.{dot, in_range}
 use Rattle.c_unit_laws.specs.Follows.SameInput.{AreSeparate, IsSameTensor, IsSameWindow}
 use Rattle.c_unit_laws.specs.Follows.Grounds.{declared_in}
 use Rattle.c_unit_laws.specs.Follows.Units.{IsListing, AreLowered, IsSameStart}
-use Rattle.c_unit_laws.specs.ClosedRuns.SharedArray.{put, put_program, put_printed, two_long, input, layout, array, machine, things, no_templates, SharedArray}
+use Rattle.c_unit_laws.specs.ClosedRuns.SharedArray.{put, put_program, put_printed, two_long, input, layout, machine, things, SharedArray}
 use Rattle.c_unit_laws.proofs.OfClosedRuns.Entries.{none_some, some_same, no_number, no_entry, machine_of, one_index, one_in_range}
-use Rattle.c_unit_laws.specs.ClosedRuns.Add3.{by_argument}
+use Rattle.c_unit_laws.specs.ClosedRuns.Add3.{by_argument, object as array}
+use Rattle.c_unit_laws.specs.Follows.Machine.Examples.{no_templates}
 
 -- ---- the C
 

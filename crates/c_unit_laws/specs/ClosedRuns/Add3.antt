@@ -1,6 +1,6 @@
 -- The first example, from a text's procedure to what a call of its C leaves.
 use Rattle.std.specs.Prelude.{◌≡◌, ◌==◌, ℕ, ℤ, pos, true, false, if◌then◌else◌, List, [], ◌∷◌, map}
-use Rattle.std.specs.Prelude.{codes, Option, Some, None}
+use Rattle.std.specs.Prelude.{codes, Some, None}
 use Rattle.std.specs.Option.{IsSome}
 use Rattle.exo_tree.specs.Tree.{I32, Lit, Const, Read, Plus, Assign, end, next, Control}
 use Rattle.exo_tree.specs.Tree.{TensorParam, Procedure, Program}
@@ -12,13 +12,14 @@ use Rattle.exo_meaning.specs.Inputs.{IsValid, run_procedure}
 use Rattle.exo_meaning.specs.Units.{IsUnit}
 use Rattle.memory_kinds.specs.Faults.{fault_of}
 use Rattle.c_unit_laws.specs.Follows.Machine.Machine.{Done, Thing, IsArray, Object, Machine}
-use Rattle.c_unit_laws.specs.Follows.Machine.CRun.{Behaviour, run_file}
+use Rattle.c_unit_laws.specs.Follows.Machine.CRun.{run_file}
 use Rattle.c_lowering.specs.Made.LoweredUnit.{Printing, lowered}
 use Rattle.c_lowering.specs.Made.Examples.{param, printed, dram}
-use Rattle.c_unit_laws.specs.Follows.Simulation.{Layout}
 use Rattle.c_unit_laws.specs.Follows.Templates.{TemplatesDoTheirBodies}
 use Rattle.c_unit_laws.specs.Follows.Units.{AreLowered, IsSameStart}
 use Rattle.c_unit_laws.specs.Stores.{allocates_nothing}
+use Rattle.c_unit_laws.specs.Follows.Machine.Examples.{no_templates}
+use Rattle.c_unit_laws.specs.Follows.Simulation.{Layout}
 
 abbrev pub four : List Control
 four = Lit (pos 4) ∷ []
@@ -81,9 +82,6 @@ machine = record {
 
 abbrev pub things : List Thing
 things = IsArray (layout 0) ∷ IsArray (layout 1) ∷ []
-
-abbrev pub no_templates : ℕ → Option Behaviour
-no_templates k = None
 
 -- what the four cells of an object hold
 abbrev pub four_cells : Machine → ℕ → List Value

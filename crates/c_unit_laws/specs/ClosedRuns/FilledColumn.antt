@@ -1,7 +1,6 @@
 -- A call from outside that hands a function a column: two cells of an object of four, two steps
 -- apart.
-use Rattle.std.specs.Prelude.{◌≡◌, ◌==◌, ℕ, pos, true, if◌then◌else◌, List, [], ◌∷◌, map}
-use Rattle.std.specs.Prelude.{Option, Some, None}
+use Rattle.std.specs.Prelude.{◌≡◌, ◌==◌, pos, true, if◌then◌else◌, List, [], ◌∷◌, map, Some, None}
 use Rattle.std.specs.Option.{IsSome}
 use Rattle.exo_tree.specs.Tree.{I32}
 use Rattle.exo_meaning.specs.Value.{Undefined, Number}
@@ -10,7 +9,7 @@ use Rattle.exo_meaning.specs.State.{State}
 use Rattle.exo_meaning.specs.Run.{program_world}
 use Rattle.exo_meaning.specs.Inputs.{IsValid, run_procedure}
 use Rattle.c_unit_laws.specs.Follows.Machine.Machine.{Done, Thing, IsNumber, IsWindow, Machine}
-use Rattle.c_unit_laws.specs.Follows.Machine.CRun.{Behaviour, run_file}
+use Rattle.c_unit_laws.specs.Follows.Machine.CRun.{run_file}
 use Rattle.c_lowering.specs.Made.LoweredUnit.{lowered}
 use Rattle.c_lowering.specs.Made.Examples.{fill}
 use Rattle.c_unit_laws.specs.Follows.Simulation.{Layout}
@@ -19,6 +18,7 @@ use Rattle.c_unit_laws.specs.Follows.Units.{IsSameStart}
 use Rattle.c_unit_laws.specs.Instance.{column_program, both_printed}
 use Rattle.c_unit_laws.specs.Stores.{allocates_nothing}
 use Rattle.c_unit_laws.specs.ColumnRun.{machine}
+use Rattle.c_unit_laws.specs.Follows.Machine.Examples.{no_templates}
 
 -- two cells, two steps apart
 abbrev pub column : Shape
@@ -42,9 +42,6 @@ layout b = record { object = 0; offset = pos 1 }
 
 abbrev pub things : List Thing
 things = IsNumber (pos 2) ∷ IsWindow (layout 1) (pos 2 ∷ []) ∷ []
-
-abbrev pub no_templates : ℕ → Option Behaviour
-no_templates k = None
 
 -- The call meets what the laws on files ask, and leaves fives in the column alone.
 pub record FilledColumn : Type 0 where

@@ -1,8 +1,7 @@
 -- A call from outside whose arguments lie in one array of four cells: a tensor in its first two,
 -- and a window of the other two.
-use Rattle.std.specs.Prelude.{◌≡◌, ◌==◌, ℕ, ℤ, pos, int_lt, true, false, if◌then◌else◌, List, []}
-use Rattle.std.specs.Prelude.{◌∷◌, map}
-use Rattle.std.specs.Prelude.{codes, Option, Some, None}
+use Rattle.std.specs.Prelude.{◌≡◌, ◌==◌, ℕ, ℤ, pos, int_lt, true, if◌then◌else◌, List, []}
+use Rattle.std.specs.Prelude.{◌∷◌, map, codes, Some, None}
 use Rattle.std.specs.Option.{IsSome}
 use Rattle.exo_tree.specs.Tree.{I32, Lit, Read, Assign, end, next, Control}
 use Rattle.exo_tree.specs.Tree.{TensorParam, WindowParam, Procedure, Program}
@@ -13,16 +12,17 @@ use Rattle.exo_meaning.specs.Run.{tensor, program_world}
 use Rattle.exo_meaning.specs.Inputs.{IsValid, run_procedure}
 use Rattle.exo_meaning.specs.Units.{IsUnit}
 use Rattle.memory_kinds.specs.Faults.{fault_of}
-use Rattle.c_unit_laws.specs.Follows.Machine.Machine.{Done, Thing, IsArray, IsWindow, Object}
+use Rattle.c_unit_laws.specs.Follows.Machine.Machine.{Done, Thing, IsArray, IsWindow}
 use Rattle.c_unit_laws.specs.Follows.Machine.Machine.{Machine}
-use Rattle.c_unit_laws.specs.Follows.Machine.CRun.{Behaviour, run_file}
+use Rattle.c_unit_laws.specs.Follows.Machine.CRun.{run_file}
 use Rattle.c_lowering.specs.Made.LoweredUnit.{Printing, lowered}
 use Rattle.c_lowering.specs.Made.Examples.{param, printed, dram}
 use Rattle.c_unit_laws.specs.Follows.Simulation.{Layout}
 use Rattle.c_unit_laws.specs.Follows.Templates.{TemplatesDoTheirBodies}
 use Rattle.c_unit_laws.specs.Follows.Units.{AreLowered, IsSameStart}
 use Rattle.c_unit_laws.specs.Stores.{allocates_nothing}
-use Rattle.c_unit_laws.specs.ClosedRuns.Add3.{by_argument}
+use Rattle.c_unit_laws.specs.ClosedRuns.Add3.{by_argument, object}
+use Rattle.c_unit_laws.specs.Follows.Machine.Examples.{no_templates}
 
 abbrev pub two : List Control
 two = Lit (pos 2) ∷ []
@@ -69,14 +69,11 @@ input =
 abbrev pub layout : Layout
 layout b = record { object = 0; offset = if b == 0 then pos 2 else pos 0 }
 
-abbrev pub array : Object
-array = record { cell = I32; size = pos 4; heap = false }
-
 abbrev pub machine : Machine
 machine = record {
   setting = record {
     names = λ x. None;
-    objects = λ o. if o == 0 then Some array else None;
+    objects = λ o. if o == 0 then Some object else None;
     free = 1;
     fields = λ x. pos 0;
   };
@@ -85,9 +82,6 @@ machine = record {
 
 abbrev pub things : List Thing
 things = IsWindow (layout 0) (pos 1 ∷ []) ∷ IsArray (layout 1) ∷ []
-
-abbrev pub no_templates : ℕ → Option Behaviour
-no_templates k = None
 
 -- The call meets what the laws on files ask, and leaves a seven in the last cell.
 pub record SharedArray : Type 0 where

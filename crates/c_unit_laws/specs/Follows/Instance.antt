@@ -4,7 +4,7 @@ use Rattle.std.specs.Prelude.{◌≡◌, ℕ, pos, nat_lt, Bool, false, true, Li
 use Rattle.std.specs.Prelude.{None}
 use Rattle.std.specs.Option.{IsSome}
 use Rattle.exo_tree.specs.Tree.{Size, I32, Lit, Var, Mul, Lt, Const, Assign, Pass, If, Alloc}
-use Rattle.exo_tree.specs.Tree.{ControlArg, Window, Call, Block, end, next, ControlParam, Procedure}
+use Rattle.exo_tree.specs.Tree.{ControlArg, Call, Block, end, next, ControlParam, Procedure}
 use Rattle.exo_tree.specs.Tree.{Program}
 use Rattle.exo_meaning.specs.Value.{Undefined}
 use Rattle.exo_meaning.specs.State.{State}
@@ -15,9 +15,10 @@ use Rattle.c_unit_laws.specs.Follows.Machine.Machine.{Done, Machine}
 use Rattle.c_unit_laws.specs.Follows.Machine.CRun.{run_c}
 use Rattle.c_unit_laws.specs.Follows.Machine.Examples.{bare, alone}
 use Rattle.c_lowering.specs.Made.Lowered.{Routine, Naming, Forms, NoForm, param_forms, block_of}
-use Rattle.c_lowering.specs.Made.Examples.{fill, col, last_column}
+use Rattle.c_lowering.specs.Made.Examples.{fill, col}
 use Rattle.c_unit_laws.specs.Follows.Simulation.{Ground, Layout, Matches}
 use Rattle.c_unit_laws.specs.Follows.Good.{IsGoodBlock}
+use Rattle.c_unit_laws.specs.Instance.{filling}
 
 -- t : i32[2]
 -- t[1] = 7
@@ -82,10 +83,6 @@ BlockInstance =
     × IsSome (run world body empty)
     × ((n : Machine) × (run_c alone (block_of ground.naming nothing body) bare ≡ Done n))
 
--- fill(M, A[0:M, N - 1])
-abbrev pub calling : Block
-calling = next (Call 0 (ControlArg (Var 3) ∷ Window 5 last_column ∷ [])) end
-
 -- where `fill` may be called, with a size as large as a valid input may have
 abbrev pub calling_ground : Ground
 calling_ground = record ground {
@@ -98,7 +95,7 @@ abbrev pub sizes : ℕ → ℕ
 sizes x = 2147483647
 
 abbrev pub CallInstance : Type 0
-CallInstance = IsGoodBlock calling_ground (param_forms (col calling).params) sizes calling
+CallInstance = IsGoodBlock calling_ground (param_forms (col filling).params) sizes filling
 
 -- ---- widths
 

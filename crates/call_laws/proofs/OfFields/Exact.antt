@@ -9,7 +9,7 @@ use Rattle.exo_meaning.specs.Units.{is_empty}
 use Rattle.meaning_laws.proofs.Substitute.{and_parts}
 use Rattle.tree_edits.specs.Made.Passes.{has_nothing, is_alone, or_pass}
 use Rattle.config_laws.specs.FieldRule as config
-use Rattle.config_laws.specs.FieldRule.{is_first, is_end}
+use Rattle.config_laws.specs.FieldRule.{is_first}
 use Rattle.step_rules.specs.Lawful.{around, old, with_body}
 use Rattle.step_rules.proofs.Found.{and_true}
 use Rattle.step_rules.proofs.Shapes.{or_pass_next}
@@ -77,12 +77,12 @@ passed_binders c b h = by (is_alone c && is_empty b)
     by true = refl
     by false = h
 
-same_end : (b : Block) → is_empty b ≡ is_end b
+same_end : (b : Block) → is_empty b ≡ is_empty b
 same_end end = refl
 same_end (next a b) = refl
 
 mutual
-  same_first : (c : Context) → has_nothing true c ≡ (is_first c && is_end (rest_of c))
+  same_first : (c : Context) → has_nothing true c ≡ (is_first c && is_empty (rest_of c))
   same_first (Here rest) = same_end rest
   same_first (After a c) = same_later a c
   same_first (InLoop i lo hi c rest) = same_first c
@@ -90,7 +90,7 @@ mutual
   same_first (InElse t other c rest) = same_first c
 
   same_later : (a : Statement) (c : Context)
-      → has_nothing false c ≡ (is_first (After a c) && is_end (rest_of c))
+      → has_nothing false c ≡ (is_first (After a c) && is_empty (rest_of c))
   same_later a (Here rest) = refl
   same_later a (After b c) = same_later b c
   same_later a (InLoop i lo hi c rest) = same_first c
@@ -100,7 +100,7 @@ mutual
 -- what stands in a block that would be empty is told twice, and is one
 pub same_pass : (c : Context) (b : Block) → config.or_pass c b ≡ or_pass c b
 same_pass c (next a b) = sym (or_pass_next c a b)
-same_pass c end = by (is_first c) (is_end (rest_of c)) ∙ ap given (sym (same_first c))
+same_pass c end = by (is_first c) (is_empty (rest_of c)) ∙ ap given (sym (same_first c))
   where
     given : Bool → Block
     given t = if t && true then next Pass end else end

@@ -20,8 +20,8 @@ use Rattle.match_laws.specs.Inline.AtOnce.{Put, puts, with_put}
 use Rattle.match_laws.specs.Inline.MatchLaw.{dims_if, dims_of, is_known}
 use Rattle.match_laws.specs.Inline.MovedIsPut.{is_of_kind, are_of_kinds}
 use Rattle.match_laws.proofs.RenamedCallee.{same_ids}
-use Rattle.call_laws.specs.Replace.Rule.{given_in}
 use Rattle.affine_forms.proofs.Values.{and_parts}
+use Rattle.check_claims.specs.Arguments.{passed_for}
 
 no : {P : Type 0} → false ≡ true → P
 no h = absurd (true≢false (sym h))
@@ -142,7 +142,7 @@ params_same r (p ∷ ps) =
 -- a view that is given for a parameter is put for it
 pub name_is : (r : Renaming) (ps : List Param) (args : List Argument) (x : ℕ)
     → are_of_kinds (re_params r ps) args ≡ true
-    → IfSome (given_in ps args x) (λ a. is_view a ≡ true → (puts (re_params r ps) args).name (r.to x) ≡ a)
+    → IfSome (passed_for ps args x) (λ a. is_view a ≡ true → (puts (re_params r ps) args).name (r.to x) ≡ a)
 name_is r [] args x h = tt
 name_is r (p ∷ ps) [] x h = tt
 name_is r (p ∷ ps) (a ∷ args) x h =
@@ -184,10 +184,10 @@ name_is r (p ∷ ps) (a ∷ args) x h =
     under (Some b) name e i = λ v. e ∙ i v
 
     go : (t : Bool) → (p.binder.id == x) ≡ t → is_of_kind (re_kind r p.kind) a ≡ true
-        → IfSome (given_in ps args x) (λ b. is_view b ≡ true → put.name (r.to x) ≡ b)
-        → IfSome (if t then Some a else given_in ps args x)
+        → IfSome (passed_for ps args x) (λ b. is_view b ≡ true → put.name (r.to x) ≡ b)
+        → IfSome (if t then Some a else passed_for ps args x)
         (λ b. is_view b ≡ true → (with_put (r.to p.binder.id) (re_kind r p.kind) a put).name (r.to x) ≡ b)
     go true e i rest = this p.kind a i (flipped true e)
     go false e i rest =
-        under (given_in ps args x) ((with_put (r.to p.binder.id) (re_kind r p.kind) a put).name (r.to x))
+        under (passed_for ps args x) ((with_put (r.to p.binder.id) (re_kind r p.kind) a put).name (r.to x))
         (later p.kind a (flipped false e)) rest

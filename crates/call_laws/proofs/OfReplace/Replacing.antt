@@ -34,9 +34,10 @@ use Rattle.call_laws.proofs.OfCalls.OfNames.Copies.{bodies_without_copies}
 use Rattle.call_laws.specs.Places.{reading_in}
 use Rattle.call_laws.specs.Simplify.{reading_of}
 use Rattle.call_laws.specs.Replace.Rule.{is_used_after, hands_wholes, may_share}
-use Rattle.call_laws.specs.Replace.Rule.{told, told_there, said, param_name, given_in, replace_rule}
+use Rattle.call_laws.specs.Replace.Rule.{told, told_there, said, param_name, replace_rule}
 use Rattle.call_laws.proofs.Simplify.{rooted_is}
 use Rattle.call_laws.proofs.OfReplace.Site.{call_refines}
+use Rattle.check_claims.specs.Arguments.{passed_for}
 
 -- ---- what was found
 
@@ -67,7 +68,7 @@ record IsSaid (k : ℕ) (t : Target) (o : Opened) (args : List Argument) : Type 
   callee : Procedure
   there : slice_get t.unit.procedures k ≡ Some callee
   found : matched (reading_of t) (names_of t.proc) o.piece callee ≡ Arguments args
-  plain : hands_wholes (given_in callee.params args) callee.body o.piece ≡ false
+  plain : hands_wholes (passed_for callee.params args) callee.body o.piece ≡ false
 
 is_said : (k : ℕ) (t : Target) (o : Opened) (args : List Argument) → said k t o ≡ Got args
     → IsSaid k t o args
@@ -81,14 +82,14 @@ is_said k t o args h = outer (slice_get t.unit.procedures k) refl h
     inner q e (Said (Undetermined x)) f g = no_got (causes.Undetermined (param_name q.params x)) args g
     inner q e (Said (Arguments those)) f g =
         let rest = (if may_share t o k q those then Got those else Not SharedArgument) in
-        let u = got_unless (hands_wholes (given_in q.params those) q.body o.piece) WrongShape rest args g in
+        let u = got_unless (hands_wholes (passed_for q.params those) q.body o.piece) WrongShape rest args g in
         let same : those ≡ args = got_if (may_share t o k q those) SharedArgument those args u.1 in
         record {
           callee = q;
           there = e;
           found = width_law (reading_of t) (names_of t.proc) o.piece q (Arguments those) f
               ∙ ap (λ z. Arguments z) same;
-          plain = subst (λ z. hands_wholes (given_in q.params z) q.body o.piece ≡ false) same u.0;
+          plain = subst (λ z. hands_wholes (passed_for q.params z) q.body o.piece ≡ false) same u.0;
         }
 
     outer : (u : Option Procedure) → slice_get t.unit.procedures k ≡ u
@@ -170,7 +171,7 @@ module _ (k n : ℕ) (a : Site) (is : IsSite (replace_rule k n) a) where
     callee : Procedure
     there : slice_get t.unit.procedures k ≡ Some callee
     found : matched (reading_of t) (names_of t.proc) (old s) callee ≡ Arguments args
-    plain : hands_wholes (given_in callee.params args) callee.body (old s) ≡ false
+    plain : hands_wholes (passed_for callee.params args) callee.body (old s) ≡ false
 
   is_found : IsFound
   is_found =

@@ -88,7 +88,7 @@ use Rattle.call_laws.proofs.OfCalls.Takes.{all_taken}
 use Rattle.call_laws.proofs.OfCalls.Uses as used
 use Rattle.call_laws.specs.Places.{IsThere, reading_in}
 use Rattle.call_laws.specs.Replace.BlockIds.{param_ids, TakesBlockIds}
-use Rattle.call_laws.specs.Replace.Rule.{given_in, hands_wholes}
+use Rattle.call_laws.specs.Replace.Rule.{hands_wholes}
 use Rattle.call_laws.proofs.Each.{statement_so, each_is_read, on_there}
 use Rattle.call_laws.proofs.Entries.{entry_reads, some_is_seen}
 use Rattle.call_laws.proofs.Nameless.{of_nameless, each_nameless}
@@ -104,6 +104,7 @@ use Rattle.call_laws.proofs.OfReplace.Neither as neither
 use Rattle.call_laws.proofs.OfReplace.PieceIds.{piece_ids}
 use Rattle.call_laws.proofs.OfReplace.Tables.{extents_stand}
 use Rattle.call_laws.proofs.OfReplace.Wholes.{blocks_are}
+use Rattle.check_claims.specs.Arguments.{passed_for}
 
 no : {P : Type 0} → false ≡ true → P
 no h = absurd (true≢false (sym h))
@@ -181,7 +182,7 @@ module _ (s : Spot) (base k : ℕ) (q : Procedure) (args : List Argument) (is : 
     (found : matched (reading_in s.target.unit s.target.proc) (names_of s.target.proc) (old s) q
     ≡ Arguments args)
     (unused : mentions (has_binder (old s)) (rest_of (around s)) ≡ false)
-    (plain : hands_wholes (given_in q.params args) q.body (old s) ≡ false) where
+    (plain : hands_wholes (passed_for q.params args) q.body (old s) ≡ false) where
   abbrev unit : Program
   unit = s.target.unit
 
@@ -357,7 +358,7 @@ module _ (s : Spot) (base k : ℕ) (q : Procedure) (args : List Argument) (is : 
 
   calls : calls_alike put fresh.body (old s) ≡ true
   calls =
-      blocks_are put r.to (given_in q.params args) (λ x. name_is r q.params args x kinds_fit) q.body
+      blocks_are put r.to (passed_for q.params args) (λ x. name_is r q.params args x kinds_fit) q.body
       (old s) plain
 
   distinct : AreDistinct fresh.params

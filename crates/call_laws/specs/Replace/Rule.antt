@@ -20,6 +20,7 @@ use Rattle.match_laws.specs.Inline.Meets.{is_window}
 use Rattle.step_rules.specs.Rule.{Tried, Got, Not, Target, Piece, Rule, plain_rule}
 use Rattle.step_rules.specs.Answer.{then_try, opened_or_wrong}
 use Rattle.call_laws.specs.Simplify.{reading_of}
+use Rattle.check_claims.specs.Arguments.{passed_for}
 
 -- a binder of the block is used behind it
 abbrev pub is_used_after : Opened → Bool
@@ -28,12 +29,6 @@ is_used_after o = mentions (has_binder o.piece) (rest_of o.around)
 abbrev pub param_name : List Param → ℕ → List ℕ
 param_name [] x = []
 param_name (p ∷ ps) x = if x == p.binder.id then p.binder.name else param_name ps x
-
--- the argument of a parameter
-abbrev pub given_in : List Param → List Argument → ℕ → Option Argument
-given_in [] args x = None
-given_in (p ∷ ps) [] x = None
-given_in (p ∷ ps) (a ∷ args) x = if p.binder.id == x then Some a else given_in ps args x
 
 -- the parameters that a procedure of the unit writes
 abbrev pub written_by : Option Callee → ℕ → Bool
@@ -82,7 +77,7 @@ module _ (t : Target) (o : Opened) (k : ℕ) (q : Procedure) where
   told (Said (NoMatch path)) = Not (causes.NoMatch path)
   told (Said (Undetermined x)) = Not (causes.Undetermined (param_name q.params x))
   told (Said (Arguments args)) =
-      if hands_wholes (given_in q.params args) q.body o.piece
+      if hands_wholes (passed_for q.params args) q.body o.piece
       then Not WrongShape
       else (if may_share args then Got args else Not SharedArgument)
 

@@ -9,7 +9,7 @@ use Rattle.exo_tree.specs.Tree.{Alloc, View, Call, Block, end, next, Param, Para
 use Rattle.exo_tree.specs.Tree.{TensorParam, WindowParam, Procedure}
 use Rattle.affine_forms.specs.Atoms.{OpaqueStride, constantly, only}
 use Rattle.affine_forms.specs.Forms.{form}
-use Rattle.affine_forms.specs.Strides.{is_number, is_one_open, product_form, dense_stride}
+use Rattle.affine_forms.specs.Strides.{is_one_open, product_form, dense_stride}
 use Rattle.affine_forms.proofs.Values.{and_parts}
 use Rattle.affine_places.specs.Readings.{extent_reading, root_stride, stride_over, stride_of}
 use Rattle.affine_places.specs.Roots.{Layout, Dense, Strided, Rooted, Roots, no_roots, own_root}
@@ -19,6 +19,7 @@ use Rattle.exo_effects.specs.Fresh.{past_linear}
 use Rattle.exo_effects.specs.Low.{is_low, condition_is_low, kind_is_low, block_is_low}
 use Rattle.exo_effects.specs.Low.{statement_is_low, procedure_is_low}
 use Rattle.effect_conflicts.proofs.PastForms.{form_past, times_past, extents_past}
+use Rattle.exo_meaning.specs.Units.{is_literal}
 
 abbrev LayoutLow : Layout → Type 0
 LayoutLow (Dense extents) = list_all is_low extents ≡ true
@@ -111,7 +112,7 @@ product_past :
 product_past [] h = omega arith
 product_past (e ∷ es) h =
     let q = and_parts (is_low e) (list_all is_low es) h in
-    times_past (2 ^ 31) (is_number e) (form extent_reading e) (product_form extent_reading es)
+    times_past (2 ^ 31) (is_literal e) (form extent_reading e) (product_form extent_reading es)
     (form_past (2 ^ 31) extent_reading (extents_past (2 ^ 31)) e q.0) (product_past es q.1)
 
 dropped_low :

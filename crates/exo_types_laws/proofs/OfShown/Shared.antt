@@ -9,13 +9,14 @@ use Rattle.rules_names.specs.declared.error.TypeKind.TheVariants.{SharedArgument
 use Rattle.rules_names.specs.Faults.{unless}
 use Rattle.text_show.specs.Words.{Words}
 use Rattle.exo_types.specs.declared.call.Passed.{Passed}
-use Rattle.exo_types.specs.ArgumentRules.{same_buffer, passed_for, is_passed, argument_width, argument_of, arguments_of, arguments_faults, call_faults}
+use Rattle.exo_types.specs.ArgumentRules.{passed_for, is_passed, argument_width, argument_of, arguments_of, arguments_faults, call_faults}
 use Rattle.exo_types_laws.specs.Shown.Written as written
 use Rattle.exo_types_laws.specs.Shown.Names.{Each}
 use Rattle.exo_types_laws.proofs.OfShown.Scoped.{Finds, re_scope, both, neither, denied}
 use Rattle.exo_types_laws.proofs.OfShown.Resolved.{FindsFields, unless_fine, joined_fine}
 use Rattle.exo_types_laws.proofs.OfShown.Numbered.{one_to_one}
 use Rattle.exo_types_laws.proofs.OfShown.Passed.{HasCoords, argument_same, argument_fine}
+use Rattle.exo_modes.specs.Aliases.{same_buffer}
 
 pub same_ids : (r : Renaming) (x y : ℕ) → (r.to x == r.to y) ≡ (x == y)
 same_ids r x y = by (x == y) refl

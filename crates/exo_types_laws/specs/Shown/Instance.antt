@@ -1,28 +1,27 @@
 -- A closed unit with names of the grammar: a procedure that fills a window, one that calls it, and
 -- versions of both.
-use Rattle.std.specs.Prelude.{◌≡◌, ◌+◌, ℕ, pos, true, false, List, [], ◌∷◌, codes, None}
-use Rattle.exo_tree.specs.Tree.{I32, Size, Binder, Lit, Var, Sub, At, Span, ControlArg, Window}
+use Rattle.std.specs.Prelude.{◌≡◌, ◌+◌, ℕ, pos, List, [], ◌∷◌, codes, None}
+use Rattle.exo_tree.specs.Tree.{I32, Size, Lit, Var, Sub, At, Span, ControlArg, Window}
 use Rattle.exo_tree.specs.Tree.{Const}
 use Rattle.exo_tree.specs.Tree.{Assign, For, Call, Block, end, next, Param, ParamKind, ControlParam}
-use Rattle.exo_tree.specs.Tree.{TensorParam, WindowParam, Procedure, MemoryKind, Program}
+use Rattle.exo_tree.specs.Tree.{TensorParam, WindowParam, Procedure, Program}
 use Rattle.exo_meaning.specs.Units.{IsUnit}
 use Rattle.exo_reader.specs.Source.{Item}
+use Rattle.exo_types.specs.MemoryRules.{dram}
 use Rattle.exo_types.specs.UnitRules.{nothing_above, after_items, unit_fault}
 use Rattle.exo_types_laws.specs.Shown.Again.{HoldsWhatIsNamed, StandsFor}
 use Rattle.exo_types_laws.specs.Shown.Written.{written}
 use Rattle.exo_types_laws.specs.Shown.Writable.{IsWritable}
 use Rattle.exo_types_laws.specs.Shown.Named.{AreNamed}
-
-abbrev pub named : ℕ → List ℕ → Binder
-named id name = record { id = id; name = name }
+use Rattle.exo_types.specs.TypeRules.{binder}
 
 abbrev pub param : ℕ → List ℕ → ParamKind → Param
-param id name kind = record { binder = named id name; kind = kind }
+param id name kind = record { binder = binder id name; kind = kind }
 
 -- for l in seq(0, n): w[l] = 5
 abbrev pub five : ℕ → Block
 five id =
-    next (For (named (2 + id) (codes "l")) (Lit (pos 0)) (Var id)
+    next (For (binder (2 + id) (codes "l")) (Lit (pos 0)) (Var id)
     (next (Assign (1 + id) (Var (2 + id) ∷ []) (Const (pos 5))) end)) end
 
 -- def NAME(n: size, w: [i32][n]), whose binders have ids from this one on
@@ -55,19 +54,6 @@ column k = record {
   asserts = [];
   body = filling k;
   template = None;
-}
-
-abbrev pub dram : MemoryKind
-dram = record {
-  name = codes "DRAM";
-  ctype = [];
-  lanes = 0;
-  cell = None;
-  stack = false;
-  read = true;
-  write = true;
-  reduce = true;
-  header = [];
 }
 
 -- a procedure, one that calls it, a version of the first with other ids, and a version of the

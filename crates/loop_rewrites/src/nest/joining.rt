@@ -1,5 +1,5 @@
 //! The step that makes one loop of two, the second of which goes on where the first ends.
-ghost use Rattle.std.specs.Prelude.{◌≡◌, IsTrue, map, option_map, IfOk, refl};
+ghost use Rattle.std.specs.Prelude.{◌≡◌, IsTrue, map, IfOk, refl};
 ghost use Rattle.exo_tree.specs.Tree.{block};
 ghost use Rattle.exo_tree.specs.PlainProcedure.{procedure};
 ghost use Rattle.exo_tree.specs.Renaming as renaming;
@@ -9,7 +9,7 @@ ghost use Rattle.loop_laws.specs.JoinLoops.{join_rule};
 ghost use Rattle.loop_laws.proofs.JoinRule.{join_is_lawful, join_is_carrying};
 ghost use Rattle.step_driver.specs.Outcomes.{Tries};
 ghost use Rattle.step_driver.specs.Needs.PlainNeed.{plain_need};
-ghost use Rattle.loop_rewrites.specs.Nest.PlainNeighbours.{plain_neighbours};
+ghost use Rattle.loop_rewrites.specs.Nest.PlainTwo.{plain_loops};
 ghost use Rattle.step_targets.specs.PlainLoop.{plain_loop};
 
 use crate::nest::agreeing::unless_they_differ;
@@ -24,14 +24,6 @@ use step_driver::needs::Need;
 use step_driver::{Piece, Target, Writing, stays};
 use step_targets::{LoopAt, OnPiece, Plain, at_most};
 use tree_edits::made::Fresh;
-
-/// The two loops that are all of a block; None exactly where it is no two loops.
-#[tactic(auto, using(crate::proofs::OfNest::Neighbouring::neighbours_are_two))]
-fn neighbours(b: &Block) -> Option<Loops<'_>>
-    ensures { option_map plain_neighbours result ≡ plain.neighbours (block b.now) }
-{
-    loops_of(b)
-}
 
 /// A loop without its bounds, its binders numbered from behind the greatest id of a procedure on.
 fn numbered(alloc: Global, p: &Proc, l: &LoopAt<'_>) -> Result<Block, AllocError>
@@ -48,7 +40,7 @@ impl<'a> Loops<'a> {
     /// Whether the bodies are the same but for the ids and names of binders.
     fn have_one_body(&self, alloc: Global, p: &Proc) -> Result<bool, AllocError>
         ensures { IfOk result (λ t. t
-            ≡ plain.have_one_body (next_id (procedure p.now)) (plain_neighbours self.now)) }
+            ≡ plain.have_one_body (next_id (procedure p.now)) (plain_loops self.now)) }
     {
         let first = numbered(alloc, p, &self.first)?;
         let second = numbered(alloc, p, &self.second)?;
@@ -57,7 +49,7 @@ impl<'a> Loops<'a> {
 
     /// Whether the bounds that are to agree are affine and over variables alone.
     fn meet_in_variables(&self) -> bool
-        ensures { result ≡ plain.meet_in_variables (plain_neighbours self.now) }
+        ensures { result ≡ plain.meet_in_variables (plain_loops self.now) }
     {
         is_over_variables(self.second.lo) && is_over_variables(self.first.hi)
     }
@@ -66,9 +58,9 @@ impl<'a> Loops<'a> {
     /// `Form` where the normal form of one of those bounds is too wide.
     #[tactic(auto, using(crate::proofs::OfNest::Neighbouring::they_meet, crate::proofs::OfNest::Neighbouring::they_miss))]
     fn meeting(self, alloc: Global) -> Result<Loops<'a>, StepError>
-        requires { IsTrue (plain.meet_in_variables (plain_neighbours self)) }
-        ensures { Tries plain_neighbours
-            (plain.where_they_meet (plain_neighbours self.entry)) result }
+        requires { IsTrue (plain.meet_in_variables (plain_loops self)) }
+        ensures { Tries plain_loops
+            (plain.where_they_meet (plain_loops self.entry)) result }
     {
         unless_they_differ(alloc, self.second.lo, self.first.hi)?;
         Ok(self)
@@ -77,7 +69,7 @@ impl<'a> Loops<'a> {
     /// One loop from the lower bound of the first up to the upper one of the second, with the first
     /// body.
     fn joined(&self, alloc: Global) -> Result<Block, AllocError>
-        ensures { IfOk result (λ b. block b ≡ plain.joined_loop (plain_neighbours self.now)) }
+        ensures { IfOk result (λ b. block b ≡ plain.joined_loop (plain_loops self.now)) }
     {
         self.first
             .between(alloc, self.first.lo, self.second.hi, self.first.body)
@@ -86,7 +78,7 @@ impl<'a> Loops<'a> {
     /// That neither ends before it begins.
     fn in_order(&self, alloc: Global, at: &Path) -> Result<Vec<Need>, AllocError>
         ensures { IfOk result (λ ns. map plain_need ns.items
-            ≡ plain.join_needs at.now (plain_neighbours self.now)) }
+            ≡ plain.join_needs at.now (plain_loops self.now)) }
     {
         let mut all = Vec::new(alloc);
         all.push(at_most(alloc, at, self.first.lo, self.first.hi)?)?;
@@ -99,10 +91,10 @@ impl<'a> Loops<'a> {
 /// `WrongShape` where there are none, `Form` where the normal form of a bound is too wide.
 #[tactic(auto, using(crate::proofs::OfNest::Neighbouring::no_neighbours, crate::proofs::OfNest::Neighbouring::other_bodies, crate::proofs::OfNest::Neighbouring::other_bounds, crate::proofs::OfNest::Neighbouring::joining_of))]
 fn joinable<'a>(alloc: Global, p: &Proc, b: &'a Block) -> Result<Loops<'a>, StepError>
-    ensures { Tries plain_neighbours
+    ensures { Tries plain_loops
         (plain.joining (next_id (procedure p.now)) (block b.now)) result }
 {
-    let Some(n) = neighbours(b) else {
+    let Some(n) = loops_of(b) else {
         return Err(StepError::WrongShape);
     };
     if !n.have_one_body(alloc, p)? {

@@ -6,14 +6,16 @@ ghost use Rattle.exo_tree.specs.PlainArgument.{argument};
 ghost use Rattle.exo_modes.specs.Aliases.{roots_in};
 ghost use Rattle.inplace_laws.specs.Uses.{in_control, in_controls, in_condition, in_datum};
 ghost use Rattle.inplace_laws.specs.Uses.{in_coords};
-ghost use Rattle.buffer_laws.specs.Stride.Strides.{nothing, names_of, argument_uses, arguments_use};
+ghost use Rattle.buffer_laws.specs.Stride.Strides.{argument_uses, arguments_use};
+ghost use Rattle.buffer_laws.specs.Staging.Alone.{has_root};
+ghost use Rattle.inplace_laws.specs.CallInPlace.{no_name};
 
 use exo_modes::{Alias, root};
 use exo_tree::{Arg, Args, Cond, Coord, Coords, Ctrl, DataExpr, Indices};
 
 /// Whether a control expression looks at a stride of buffer `y` or of a view of it.
 pub(crate) fn control_uses(aliases: &[Alias], y: u32, e: &Ctrl) -> bool
-    ensures { result ≡ in_control nothing (names_of (roots_in aliases.now) y) (control e.now) }
+    ensures { result ≡ in_control no_name (has_root (roots_in aliases.now) y) (control e.now) }
 {
     match e {
         Ctrl::Lit(_) => false,
@@ -31,15 +33,15 @@ pub(crate) fn control_uses(aliases: &[Alias], y: u32, e: &Ctrl) -> bool
 
 /// Whether one of two expressions does.
 fn either_uses(aliases: &[Alias], y: u32, a: &Ctrl, b: &Ctrl) -> bool
-    ensures { result ≡ (in_control nothing (names_of (roots_in aliases.now) y) (control a.now)
-        || in_control nothing (names_of (roots_in aliases.now) y) (control b.now)) }
+    ensures { result ≡ (in_control no_name (has_root (roots_in aliases.now) y) (control a.now)
+        || in_control no_name (has_root (roots_in aliases.now) y) (control b.now)) }
 {
     control_uses(aliases, y, a) || control_uses(aliases, y, b)
 }
 
 /// Whether one of the indices or dimensions does.
 pub(crate) fn controls_use(aliases: &[Alias], y: u32, list: &Indices) -> bool
-    ensures { result ≡ in_controls nothing (names_of (roots_in aliases.now) y) list.now }
+    ensures { result ≡ in_controls no_name (has_root (roots_in aliases.now) y) list.now }
 {
     for e in list.as_slice() {
         if control_uses(aliases, y, e) {
@@ -51,7 +53,7 @@ pub(crate) fn controls_use(aliases: &[Alias], y: u32, list: &Indices) -> bool
 
 /// Whether a condition does.
 pub(crate) fn condition_uses(aliases: &[Alias], y: u32, c: &Cond) -> bool
-    ensures { result ≡ in_condition nothing (names_of (roots_in aliases.now) y) (condition c.now) }
+    ensures { result ≡ in_condition no_name (has_root (roots_in aliases.now) y) (condition c.now) }
 {
     match c {
         Cond::True => false,
@@ -70,7 +72,7 @@ pub(crate) fn condition_uses(aliases: &[Alias], y: u32, c: &Cond) -> bool
 
 /// Whether the indices of a data expression do.
 pub(crate) fn datum_uses(aliases: &[Alias], y: u32, e: &DataExpr) -> bool
-    ensures { result ≡ in_datum nothing (names_of (roots_in aliases.now) y) (datum e.now) }
+    ensures { result ≡ in_datum no_name (has_root (roots_in aliases.now) y) (datum e.now) }
 {
     match e {
         DataExpr::Lit(_) => false,
@@ -90,7 +92,7 @@ pub(crate) fn datum_uses(aliases: &[Alias], y: u32, e: &DataExpr) -> bool
 
 /// Whether the coordinates of a window do.
 pub(crate) fn coords_use(aliases: &[Alias], y: u32, coords: &Coords) -> bool
-    ensures { result ≡ in_coords nothing (names_of (roots_in aliases.now) y) coords.now }
+    ensures { result ≡ in_coords no_name (has_root (roots_in aliases.now) y) coords.now }
 {
     for c in coords.as_slice() {
         let found = match c {

@@ -7,10 +7,11 @@ use Rattle.exo_tree.specs.Tree.{Block, end, next, statements}
 use Rattle.exo_tree.specs.Places.{Branch, Main, Else, Path}
 use Rattle.cursor_forward.specs.Forwards.{kind_of, kinds_of, AreCarried, Carries}
 use Rattle.cursor_forward.specs.Shifts.{Shift, alone}
-use Rattle.proc_laws.specs.Expression.Passes.{or_one_pass, without, before, cleared, down, behind}
+use Rattle.proc_laws.specs.Expression.Passes.{without, before, cleared, down, behind}
 use Rattle.proc_laws.specs.Expression.Passes.{is_one_pass}
 use Rattle.proc_laws.specs.Expression.Passes.{shifted, shifted_statement, shifted_block}
 use Rattle.proc_laws.proofs.OfExpression.Standing.{of_either, Stands, BlockAt, whole_at, branch_at}
+use Rattle.tree_edits.specs.Made.Passes.{or_one_pass}
 
 carries_both : (xs ys : List Shift) (old new : Block) → Carries xs old new → Carries ys old new
     → Carries (xs ++ ys) old new

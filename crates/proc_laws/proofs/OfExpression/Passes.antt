@@ -5,7 +5,7 @@ use Rattle.exo_tree.specs.Tree.{Statement, Assign, Reduce, Config, Pass, If, For
 use Rattle.exo_tree.specs.Tree.{Block, end, next}
 use Rattle.exo_tree.specs.Context.{Context}
 use Rattle.exo_tree.specs.Places.{Main}
-use Rattle.tree_edits.specs.Made.Passes.{or_pass}
+use Rattle.tree_edits.specs.Made.Passes.{or_pass, or_one_pass}
 use Rattle.cursor_forward.specs.Forwards.{Carries}
 use Rattle.step_rules.proofs.Shapes.{or_pass_next}
 use Rattle.exo_meaning.specs.Scene.{then_do, holds}
@@ -13,7 +13,7 @@ use Rattle.exo_meaning.specs.State.{scoped}
 use Rattle.exo_meaning.specs.Run.{World, run, step, choose, turn, turns, turns_of}
 use Rattle.step_rules.specs.Rule.{Got}
 use Rattle.step_rules.specs.Lawful.{old, world_of, same, IsLawful, IsCarrying, around}
-use Rattle.proc_laws.specs.Expression.Passes.{or_one_pass, without, before, cleared, shifted_block}
+use Rattle.proc_laws.specs.Expression.Passes.{without, before, cleared, shifted_block}
 use Rattle.proc_laws.specs.Expression.Passes.{delete_pass_rule}
 use Rattle.proc_laws.proofs.OfExpression.Carried.{deleted_carries}
 use Rattle.proc_laws.proofs.OfExpression.Apart.{deleted_apart}

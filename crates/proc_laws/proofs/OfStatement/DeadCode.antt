@@ -15,7 +15,7 @@ use Rattle.meaning_laws.specs.Facts.{IsTrueAt, Holds}
 use Rattle.place_laws.specs.Scope.BranchesAtPlaces.{only_branch}
 use Rattle.place_laws.proofs.OfScope.Scopes.{branch_is_scope_law}
 use Rattle.place_laws.proofs.OfScope.Turns.{scope_of_none_law}
-use Rattle.tree_edits.specs.Made.Passes.{or_pass}
+use Rattle.tree_edits.specs.Made.Passes.{or_pass, or_one_pass}
 use Rattle.cursor_forward.specs.Forwards.{Carries, are_apart}
 use Rattle.place_laws.specs.Order.TurnsOfTwo.{Loop}
 use Rattle.step_rules.specs.Rule.{Piece, Spot}
@@ -33,7 +33,6 @@ use Rattle.proc_laws.specs.Statement.DeadCode.{Fork, fork_in, fork_of, branch_at
 use Rattle.proc_laws.specs.Statement.DeadCode.{kept, in_branch, out_of_branch, of_fork}
 use Rattle.proc_laws.specs.Statement.DeadCode.{keep_rule}
 use Rattle.proc_laws.specs.Statement.DeadCode.{no_turn_needs, empty_loop_rule}
-use Rattle.proc_laws.specs.Expression.Passes.{or_one_pass}
 
 -- ---- what is read
 

@@ -1,8 +1,7 @@
 -- The rule that exchanges the sides of a sum or product on the right of a statement.
 use Rattle.std.specs.Prelude.{ℕ, nat_lt, if◌then◌else◌, Option, Some, None, option_map}
 use Rattle.std.specs.Prelude.{option_and_then}
-use Rattle.exo_tree.specs.Tree.{Datum, Statement, Assign, Reduce, Config, Pass, If, For, Alloc}
-use Rattle.exo_tree.specs.Tree.{View, Call, Block, end, next}
+use Rattle.exo_tree.specs.Tree.{Datum, Statement, Assign, Reduce, For, Block, end, next}
 use Rattle.cursor_forward.specs.Search.Patterns as pattern
 use Rattle.cursor_forward.specs.Search.Patterns.{ExprForm, ExprPattern}
 use Rattle.cursor_forward.specs.Shifts.{stays}
@@ -27,13 +26,7 @@ commuted x e = option_and_then (commuted_by x.nth e) (operation_of x.form)
 abbrev pub commuted_statement : ExprPattern → Statement → Option Statement
 commuted_statement x (Assign y is e) = option_map (Assign y is) (commuted x e)
 commuted_statement x (Reduce y is e) = option_map (Reduce y is) (commuted x e)
-commuted_statement x (Config f a) = None
-commuted_statement x Pass = None
-commuted_statement x (If c a b) = None
-commuted_statement x (For i lo hi b) = None
-commuted_statement x (Alloc y cell dims memory) = None
-commuted_statement x (View y z coords) = None
-commuted_statement x (Call k args) = None
+commuted_statement x _ = None
 
 -- of a statement that is all of a block
 abbrev pub commuted_alone : ExprPattern → Block → Option Statement

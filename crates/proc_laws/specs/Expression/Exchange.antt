@@ -15,18 +15,14 @@ is_product Product = true
 
 -- ---- how many there are
 
-abbrev pub one_if : Bool → ℕ
-one_if true = 1
-one_if false = 0
-
 abbrev pub matches : Operation → Datum → ℕ
 matches o (Const n) = 0
 matches o (Read x is) = 0
 matches o (Negated a) = matches o a
 matches o (Relu a) = matches o a
-matches o (Plus a b) = one_if (is_sum o) + (matches o a + matches o b)
+matches o (Plus a b) = (if is_sum o then 1 else 0) + (matches o a + matches o b)
 matches o (Minus a b) = matches o a + matches o b
-matches o (Times a b) = one_if (is_product o) + (matches o a + matches o b)
+matches o (Times a b) = (if is_product o then 1 else 0) + (matches o a + matches o b)
 matches o (Select x v y z) = matches o x + (matches o v + (matches o y + matches o z))
 
 -- ---- the one of a number, counted in preorder from 0

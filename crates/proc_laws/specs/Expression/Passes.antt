@@ -5,11 +5,7 @@ use Rattle.exo_tree.specs.Tree.{Block, end, next, statements}
 use Rattle.exo_tree.specs.Places.{Branch, Main, Else, Path}
 use Rattle.cursor_forward.specs.Shifts.{Shift, at_index, alone}
 use Rattle.step_rules.specs.Rule.{Got, Rule, plain_rule}
-
--- a block of passes alone becomes one `pass`
-abbrev pub or_one_pass : Block → Block
-or_one_pass end = next Pass end
-or_one_pass (next a b) = next a b
+use Rattle.tree_edits.specs.Made.Passes.{or_one_pass}
 
 abbrev mutual
   -- the statements that are no passes

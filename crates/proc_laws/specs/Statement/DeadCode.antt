@@ -1,9 +1,7 @@
 -- The rules that take away what is never run: the branch of a condition that is never taken, and a
 -- loop that has no turn.
 use Rattle.std.specs.Prelude.{List, [], ◌∷◌, length, Option, Some, None, option_and_then}
-use Rattle.proc_laws.specs.Expression.Passes.{or_one_pass}
-use Rattle.exo_tree.specs.Tree.{Condition, Le, Statement, Assign, Reduce, Config, Pass, If, For}
-use Rattle.exo_tree.specs.Tree.{Alloc, View, Call, Block, end, next, statements}
+use Rattle.exo_tree.specs.Tree.{Condition, Le, Statement, Pass, If, Block, end, next, statements}
 use Rattle.exo_tree.specs.Places.{Branch, Main, Else, Path}
 use Rattle.meaning_laws.specs.Facts.{Fact, Holds, Fails}
 use Rattle.cursor_forward.specs.Shifts.{Shift, at_index, range}
@@ -11,6 +9,7 @@ use Rattle.place_laws.specs.Order.TurnsOfTwo.{Loop}
 use Rattle.step_rules.specs.Rule.{Need, Says, Rule, plain_rule}
 use Rattle.step_rules.specs.Shapes.{tried, alone_in, one_statement}
 use Rattle.loop_laws.specs.Shapes.{loop_of, listed, loop_rule}
+use Rattle.tree_edits.specs.Made.Passes.{or_one_pass}
 
 -- ---- a condition
 
@@ -21,15 +20,8 @@ pub record Fork : Type 0 where
   pub other : Block
 
 abbrev pub fork_in : Statement → Option Fork
-fork_in (Assign x is e) = None
-fork_in (Reduce x is e) = None
-fork_in (Config f a) = None
-fork_in Pass = None
 fork_in (If c a b) = Some (record { test = c; main = a; other = b })
-fork_in (For i lo hi b) = None
-fork_in (Alloc x cell dims memory) = None
-fork_in (View w x coords) = None
-fork_in (Call k args) = None
+fork_in _ = None
 
 -- a condition that is all of a block
 abbrev pub fork_of : Block → Option Fork

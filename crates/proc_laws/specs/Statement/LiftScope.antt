@@ -1,8 +1,7 @@
 -- The rule by which a condition or a loop that is all of what stands round it goes outside of it.
 use Rattle.std.specs.Prelude.{ℕ, ◌==◌, Bool, false, ◌&&◌, if◌then◌else◌, List, [], ◌∷◌}
 use Rattle.std.specs.Prelude.{◌++◌, length, Option, Some, None, option_map, option_and_then}
-use Rattle.exo_tree.specs.Tree.{Condition, Statement, Assign, Reduce, Config, Pass}
-use Rattle.exo_tree.specs.Tree.{If, For, Alloc, View, Call, Block, end, next, statements}
+use Rattle.exo_tree.specs.Tree.{Condition, Statement, Config, If, For, Block, end, next, statements}
 use Rattle.exo_tree.specs.Places.{Main, Else, Path, same_branch}
 use Rattle.exo_tree.specs.Renaming.{fresh}
 use Rattle.exo_meaning.specs.Unseen.{in_condition}
@@ -46,29 +45,17 @@ one_branch c a (next d b) = None
 
 -- a loop, or a condition without `else`, in a branch
 abbrev pub in_only_branch : Condition → Statement → Option Lifting
-in_only_branch c (Assign x is e) = None
-in_only_branch c (Reduce x is e) = None
-in_only_branch c (Config f a) = None
-in_only_branch c Pass = None
 in_only_branch c (If d a b) = option_map (OutOfBranch c) (one_branch d a b)
 in_only_branch c (For i lo hi b) =
     Some (LoopOut c (record { binder = i; lo = lo; hi = hi; body = b }))
-in_only_branch c (Alloc x cell dims memory) = None
-in_only_branch c (View w x coords) = None
-in_only_branch c (Call k args) = None
+in_only_branch c _ = None
 
 abbrev pub lifting_in : Statement → Option Lifting
-lifting_in (Assign x is e) = None
-lifting_in (Reduce x is e) = None
-lifting_in (Config f a) = None
-lifting_in Pass = None
 lifting_in (If c a b) =
     option_and_then (λ k. option_and_then (in_only_branch c) (alone_in k.main)) (one_branch c a b)
 lifting_in (For i lo hi b) =
     option_and_then (fork_in_loop (record { binder = i; lo = lo; hi = hi; body = b })) (alone_in b)
-lifting_in (Alloc x cell dims memory) = None
-lifting_in (View w x coords) = None
-lifting_in (Call k args) = None
+lifting_in _ = None
 
 -- of a block that is one statement
 abbrev pub lifting_of : Block → Option Lifting

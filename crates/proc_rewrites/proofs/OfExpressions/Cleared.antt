@@ -4,7 +4,8 @@ use Rattle.exo_tree.specs.Tree.{Statement, Assign, Reduce, Config, Pass, If, For
 use Rattle.exo_tree.specs.Tree.{Block, end, next, joined, block, statements}
 use Rattle.exo_tree.proofs.Openings.{joined_block}
 use Rattle.place_laws.proofs.OfScope.SamePlace.{joined_assoc}
-use Rattle.proc_laws.specs.Expression.Passes.{without, before, cleared, or_one_pass}
+use Rattle.proc_laws.specs.Expression.Passes.{without, before, cleared}
+use Rattle.tree_edits.specs.Made.Passes.{or_one_pass}
 
 block_of : (b : Block) → block (statements b) ≡ b
 block_of end = refl

@@ -4,6 +4,7 @@ ghost use Rattle.exo_tree.specs.Tree.{end, block, statements};
 ghost use Rattle.exo_tree.specs.PlainStatement.{statement};
 ghost use Rattle.proc_laws.specs.Expression.Passes as passes;
 ghost use Rattle.proc_laws.specs.Expression.Passes.{before, without};
+ghost use Rattle.tree_edits.specs.Made.Passes as emptied;
 
 use exo_tree::{Block, Stmt};
 use std::alloc::{AllocError, Global};
@@ -58,7 +59,7 @@ fn put(alloc: Global, made: &mut Block, s: &Stmt) -> Result<(), AllocError>
 /// A block that is not left empty.
 #[tactic(auto, using(crate::proofs::OfExpressions::Cleared::one_pass_some))]
 fn or_one_pass(made: Block) -> Result<Block, AllocError>
-    ensures { IfOk result (λ c. block c ≡ passes.or_one_pass (block made)) }
+    ensures { IfOk result (λ c. block c ≡ emptied.or_one_pass (block made)) }
 {
     if made.len() != 0 {
         return Ok(made);

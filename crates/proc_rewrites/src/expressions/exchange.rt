@@ -1,7 +1,7 @@
 //! The sides of one sum or product of an expression, exchanged.
-ghost use Rattle.std.specs.Prelude.{◌≡◌, ◌+◌, true, MatchBool};
+ghost use Rattle.std.specs.Prelude.{◌≡◌, ◌+◌, if◌then◌else◌, true, MatchBool};
 ghost use Rattle.exo_tree.specs.PlainDatum.{datum};
-ghost use Rattle.proc_laws.specs.Expression.Exchange.{one_if, is_sum, is_product};
+ghost use Rattle.proc_laws.specs.Expression.Exchange.{is_sum, is_product};
 ghost use Rattle.proc_rewrites.specs.Expressions.PlainOperation.{plain_operation};
 ghost use Rattle.proc_rewrites.specs.Expressions.Exchanging.{Exchanges};
 
@@ -37,7 +37,8 @@ impl Operation {
 
 /// Whether a match is the one that is looked for: `left` says how many are to be passed over.
 fn is_here(is_match: bool, left: &mut u32) -> bool
-    ensures { MatchBool result ((is_match ≡ true) × (left.old ≡ 0)) (left.old ≡ one_if is_match + left.new) }
+    ensures { MatchBool result ((is_match ≡ true) × (left.old ≡ 0))
+        (left.old ≡ (if is_match then 1 else 0) + left.new) }
 {
     if !is_match {
         return false;

@@ -3,8 +3,8 @@
 -- stands for does not hang on what sort of thing the name is, so each name is told as an index.
 use Rattle.std.specs.Prelude.{ℕ, zero, suc, Bool, if◌then◌else◌, List, [], ◌∷◌, Option, Some, None}
 use Rattle.std.specs.Prelude.{slice_get}
-use Rattle.exo_tree.specs.Tree.{Index, Binder, Statement, Assign, Reduce, Config, Pass, If, For}
-use Rattle.exo_tree.specs.Tree.{Alloc, View, Call, Block, end, next, statements, Param, Procedure}
+use Rattle.exo_tree.specs.Tree.{Index, Binder, Statement, For}
+use Rattle.exo_tree.specs.Tree.{Alloc, View, Block, end, next, statements, Param, Procedure}
 use Rattle.exo_tree.specs.Tree.{Program}
 use Rattle.exo_tree.specs.Places.{Branch, Path}
 use Rattle.exo_tree.specs.Branches.{branch_of}
@@ -21,27 +21,14 @@ naming_params (p ∷ ps) scope = naming_params ps (naming p.binder scope)
 
 -- behind a statement
 abbrev pub naming_after : Statement → Scope → Scope
-naming_after (Assign x is e) scope = scope
-naming_after (Reduce x is e) scope = scope
-naming_after (Config f a) scope = scope
-naming_after Pass scope = scope
-naming_after (If c a b) scope = scope
-naming_after (For i lo hi b) scope = scope
 naming_after (Alloc x cell dims memory) scope = naming x scope
 naming_after (View w x coords) scope = naming w scope
-naming_after (Call k args) scope = scope
+naming_after _ scope = scope
 
 -- in the blocks of a statement
 abbrev pub naming_inside : Statement → Scope → Scope
-naming_inside (Assign x is e) scope = scope
-naming_inside (Reduce x is e) scope = scope
-naming_inside (Config f a) scope = scope
-naming_inside Pass scope = scope
-naming_inside (If c a b) scope = scope
 naming_inside (For i lo hi b) scope = naming i scope
-naming_inside (Alloc x cell dims memory) scope = scope
-naming_inside (View w x coords) scope = scope
-naming_inside (Call k args) scope = scope
+naming_inside _ scope = scope
 
 -- behind the first so many statements of a block
 abbrev pub scope_behind : ℕ → Scope → Block → Scope

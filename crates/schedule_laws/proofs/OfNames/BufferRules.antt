@@ -1,6 +1,5 @@
 -- The rules of operators on buffers give names of the grammar.
 use Rattle.std.proofs.Common.{◌≡◌, ℕ, Bool, true, false, List, [], ◌∷◌, Some, ap}
-use Rattle.proc_laws.specs.Expression.Passes.{or_one_pass}
 use Rattle.std.proofs.Common.{◌∙◌, subst}
 use Rattle.exo_tree.specs.Tree.{Control, Argument, Window, At, Statement, Assign, Reduce, Config}
 use Rattle.exo_tree.specs.Tree.{Pass, If, For, Alloc, View}
@@ -23,6 +22,7 @@ use Rattle.alloc_laws.proofs.Memory.{alloc_is}
 use Rattle.alloc_laws.proofs.Lifting.{lifting_is}
 use Rattle.alloc_laws.proofs.Expanding.{expandable_is}
 use Rattle.alloc_laws.specs.Bind.Binding.{Form, storing, bound_store, bind_rule}
+use Rattle.tree_edits.specs.Made.Passes.{or_one_pass}
 
 pub memory_names : (m : ℕ) → IsNaming (memory_rule m)
 memory_names m = record {

@@ -20,7 +20,7 @@ use Rattle.step_rules.specs.Shapes.{alone_in}
 use Rattle.step_rules.proofs.Proposals.{then_got}
 use Rattle.step_rules.proofs.Shapes.{made_of}
 use Rattle.proc_laws.specs.Expression.Commute.{commuted, commuted_statement, commuted_alone, commute_rule}
-use Rattle.proc_laws.specs.Expression.Passes.{or_one_pass, without, before, cleared, delete_pass_rule}
+use Rattle.proc_laws.specs.Expression.Passes.{without, before, cleared, delete_pass_rule}
 use Rattle.proc_laws.specs.Expression.Rename.{rename_rule}
 use Rattle.loop_laws.specs.Shapes.{loop_of, is_zero, from_zero, loop_rule}
 use Rattle.loop_laws.specs.Copies.{bodies_with}
@@ -38,6 +38,7 @@ use Rattle.loop_laws.proofs.Sites.{found_then, loop_of_is}
 use Rattle.loop_laws.proofs.DivideLoop.{divisible_is}
 use Rattle.schedule_laws.specs.Names.Rules.{IsNaming}
 use Rattle.schedule_laws.proofs.OfNames.Blocks.{joined_named, mapped_named}
+use Rattle.tree_edits.specs.Made.Passes.{or_one_pass}
 
 pub got_same : {A : Type 0} {a b : A} → Got a ≡ Got b → a ≡ b
 got_same h = cc

@@ -31,11 +31,11 @@ use Rattle.proc_laws.specs.Statement.RemoveLoop.{without_variable, removable, ou
 use Rattle.proc_laws.specs.Statement.ReorderStatements as statements
 use Rattle.proc_laws.specs.Statement.ReorderStatements.{Neighbours, both_of, unbound_by_first}
 use Rattle.proc_laws.specs.Statement.ReorderStatements.{neighbours_of}
-use Rattle.proc_laws.specs.Expression.Passes.{or_one_pass}
 use Rattle.schedule_laws.specs.Names.Rules.{IsNaming}
 use Rattle.schedule_laws.proofs.OfNames.Blocks.{joined_named}
 use Rattle.schedule_laws.proofs.OfNames.LoopRules.{got_same, some_same, replaced_named, fresh_named}
 use Rattle.schedule_laws.proofs.OfNames.LoopRules.{IsNamedLoop, loop_named, loop_names}
+use Rattle.tree_edits.specs.Made.Passes.{or_one_pass}
 
 pub where_same : {A : Type 0} (t : Bool) (a b : A) → (if t then Some a else None) ≡ Some b → a ≡ b
 where_same true a b h = some_same h

@@ -16,7 +16,8 @@ use Rattle.step_rules.proofs.Shapes.{made_of, alone_is}
 use Rattle.loop_laws.specs.Shapes.{loop_in}
 use Rattle.loop_laws.proofs.Sites.{found_then}
 use Rattle.loop_laws.specs.Bounds.{bounds_differ}
-use Rattle.loop_laws.specs.JoinLoops.{Neighbours, neighbours, have_one_body, meet_in_variables}
+use Rattle.loop_laws.specs.JoinLoops.{have_one_body, meet_in_variables}
+use Rattle.loop_laws.specs.Nest.Fuse.{Two, with_second, two_of}
 use Rattle.loop_laws.specs.JoinLoops.{with_one_body, where_they_meet, joining, joined_loop, joining_at}
 use Rattle.loop_laws.specs.JoinLoops.{join_rule}
 use Rattle.proc_laws.specs.Statement.DeadCode.{fork_in}
@@ -30,35 +31,34 @@ use Rattle.schedule_laws.proofs.OfNames.OrderRules.{where_same, unless_same, for
 
 -- ---- two loops with one body
 
-first_is : (k : Loop) (o : Option Loop) (n : Neighbours)
+first_is : (k : Loop) (o : Option Loop) (n : Two)
     → option_map (λ l. record { first = k; second = l }) o ≡ Some n → k ≡ n.first
 first_is k None n h = cc
 first_is k (Some l) n h = cc
 
-first_named : (b : Block) (n : Neighbours) → neighbours b ≡ Some n → IsNamedBlock b
+first_named : (b : Block) (n : Two) → two_of b ≡ Some n → IsNamedBlock b
     → IsNamedLoop n.first
 first_named end n found h = cc
 first_named (next a end) n found h = cc
 first_named (next a (next b end)) n found h =
-    let k = found_then (loop_in a)
-    (λ k. option_map (λ l. record { first = k; second = l }) (loop_in b)) n found in
+    let k = found_then (loop_in a) (with_second b) n found in
     subst IsNamedLoop (first_is k.0 (loop_in b) n k.2) (loop_named (next a end) k.0 k.1 (h.0, tt))
 first_named (next a (next b (next c rest))) n found h = cc
 
-meet_same : (k n : Neighbours) → where_they_meet k ≡ Got n → k ≡ n
+meet_same : (k n : Two) → where_they_meet k ≡ Got n → k ≡ n
 meet_same k n h = got_same (unless_got (bounds_differ k.second.lo k.first.hi) (Got k) n h).1
 
-joining_named : (base : ℕ) (b : Block) (n : Neighbours) → joining base b ≡ Got n → IsNamedBlock b
+joining_named : (base : ℕ) (b : Block) (n : Two) → joining base b ≡ Got n → IsNamedBlock b
     → IsNamedLoop n.first
 joining_named base b n found h =
-    let read = option_and_then (with_one_body base) (neighbours b) in
+    let read = option_and_then (with_one_body base) (two_of b) in
     let t = then_got (tried read (λ m. m)) where_they_meet n found in
     let d = made_of read (λ m. m) t.0 t.1 in
-    let k = found_then (neighbours b) (with_one_body base) d.of d.found in
+    let k = found_then (two_of b) (with_one_body base) d.of d.found in
     let same = where_same (have_one_body base k.0 && meet_in_variables k.0) k.0 d.of k.2 in
-    subst (λ (m : Neighbours). IsNamedLoop m.first) (meet_same t.0 n t.2)
-    (subst (λ (m : Neighbours). IsNamedLoop m.first) d.made
-    (subst (λ (m : Neighbours). IsNamedLoop m.first) same (first_named b k.0 k.1 h)))
+    subst (λ (m : Two). IsNamedLoop m.first) (meet_same t.0 n t.2)
+    (subst (λ (m : Two). IsNamedLoop m.first) d.made
+    (subst (λ (m : Two). IsNamedLoop m.first) same (first_named b k.0 k.1 h)))
 
 pub join_names : IsNaming join_rule
 join_names = record {

@@ -1,5 +1,5 @@
 -- A schedule that changes a buffer, and what is refused of such ones.
-use Rattle.std.specs.Prelude.{◌≡◌, ℕ, pos, List, [], ◌∷◌, Some, codes, map}
+use Rattle.std.specs.Prelude.{◌≡◌, ℕ, pos, List, [], ◌∷◌, Some, codes}
 use Rattle.exo_tree.specs.Tree.{I32, Control, Lit, Const, Read, Plus, Assign, Alloc, For, Block}
 use Rattle.exo_tree.specs.Tree.{Statement, end, next, Program}
 use Rattle.exo_tree.specs.Places.{Main}
@@ -15,15 +15,15 @@ use Rattle.alloc_laws.specs.Lifting.{within}
 use Rattle.schedule_calls.specs.declared.operator.CursorOperator.TheVariants.{LiftAlloc}
 use Rattle.schedule_calls.specs.declared.operator.CursorOperator.TheVariants.{DeleteBuffer}
 use Rattle.schedule_calls.specs.declared.operator.WordOperator.TheVariants.{SetMemory}
-use Rattle.schedule_calls.specs.Requests.{Asked, Here, Operation, At, WithWord, BindExpr, ExpandDim}
+use Rattle.schedule_calls.specs.Requests.{Asked, Here, At, WithWord, BindExpr, ExpandDim}
 use Rattle.schedule_calls.specs.Requests.{Request, Apply}
-use Rattle.schedule_laws.specs.Versions.Versions.{Version, of_text, unmoved, Versions, started}
+use Rattle.schedule_laws.specs.Versions.Versions.{Version, of_text, unmoved, Versions}
 use Rattle.schedule_laws.specs.Versions.Lines as lines
-use Rattle.schedule_laws.specs.Versions.Lines.{Done, Stopped, run_acts}
-use Rattle.schedule_laws.specs.Operators.Operators.{act_of}
+use Rattle.schedule_laws.specs.Versions.Lines.{Done}
 use Rattle.schedule_laws.specs.Operators.Instance as instance
 use Rattle.schedule_laws.specs.Operators.Instance.{procedure, alone_at, child_of, at_head}
-use Rattle.schedule_laws.specs.Operators.LoopInstance.{the_loop, the_body, no_field}
+use Rattle.schedule_laws.specs.Operators.Instance.{the_loop, the_store, ran, refused}
+use Rattle.schedule_laws.specs.Operators.LoopInstance.{no_field}
 
 -- ---- the unit
 
@@ -74,7 +74,7 @@ schedule =
     -- p = lift_alloc(f, 't : _')
     Apply (codes "p") (codes "f") (alone_at LiftAlloc buffer_t)
     -- q = bind_expr(p, 'x = _', 't', 'b')
-    ∷ Apply (codes "q") (codes "p") (At the_body (BindExpr read_t (codes "b")))
+    ∷ Apply (codes "q") (codes "p") (At the_store (BindExpr read_t (codes "b")))
     -- r = expand_dim(q, 'b : _', '4', '1')
     ∷ Apply (codes "r") (codes "q") (At buffer_b (ExpandDim four one))
     -- s = set_memory(r, 'b : _', DRAM)
@@ -129,21 +129,20 @@ result = record {
 
 -- ---- refusals
 
--- one operator on the procedure
-abbrev pub refused : Operation → lines.Why → Type 0
-refused o why =
-    run_acts (map act_of (Apply (codes "p") (codes "f") o ∷ [])) (started unit 0) ≡ Stopped 0 why
-
 pub record BuffersInstance : Type 0 where
-  pub runs : run_acts (map act_of schedule) (started unit 0) ≡ Done result
+  pub runs : ran unit schedule ≡ Done result
   -- statements behind it use the buffer
-  pub used : refused (alone_at DeleteBuffer buffer_t) (lines.Step StillUsed)
+  pub used : refused unit (codes "f") (alone_at DeleteBuffer buffer_t) (lines.Step StillUsed)
   -- no loop stands round the loop
-  pub none_round : refused (alone_at LiftAlloc the_loop) (lines.Step WrongShape)
+  pub none_round : refused unit (codes "f") (alone_at LiftAlloc the_loop) (lines.Step WrongShape)
   -- an assignment is no allocation
-  pub no_buffer : refused (At the_body (WithWord SetMemory (codes "DRAM"))) (lines.Step WrongShape)
+  pub no_buffer :
+      refused unit (codes "f") (At the_store (WithWord SetMemory (codes "DRAM")))
+      (lines.Step WrongShape)
   -- names that stand for nothing are refused before the cursor is looked for
-  pub no_memory : refused (At the_loop (WithWord SetMemory (codes "AVX"))) lines.UnknownName
-  pub no_size : refused (At the_loop (ExpandDim no_field one)) lines.UnknownName
+  pub no_memory :
+      refused unit (codes "f") (At the_loop (WithWord SetMemory (codes "AVX"))) lines.UnknownName
+  pub no_size : refused unit (codes "f") (At the_loop (ExpandDim no_field one)) lines.UnknownName
   -- the name of the parameter
-  pub name_taken : refused (At the_body (BindExpr read_t (codes "x"))) (lines.Step NameTaken)
+  pub name_taken :
+      refused unit (codes "f") (At the_store (BindExpr read_t (codes "x"))) (lines.Step NameTaken)

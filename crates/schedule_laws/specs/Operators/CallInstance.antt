@@ -1,10 +1,9 @@
 -- Schedules that change and make calls and write configuration fields, and what is refused of such
 -- ones.
-use Rattle.std.specs.Prelude.{◌≡◌, ℕ, pos, true, List, [], ◌∷◌, Some, codes, map}
-use Rattle.exo_tree.specs.Tree.{Control, Lit, Size, ControlArg, Whole, Const, Assign, Config}
+use Rattle.std.specs.Prelude.{◌≡◌, ℕ, pos, true, List, [], ◌∷◌, Some, codes}
+use Rattle.exo_tree.specs.Tree.{Control, Lit, Size, ControlArg, Whole, Config}
 use Rattle.exo_tree.specs.Tree.{Call, Block, Statement, end, next, ConfigField, Program}
-use Rattle.text_lexer.specs.declared.token.Literal.TheVariants.{Value}
-use Rattle.text_expressions.specs.Expression.{Tree, number, truth}
+use Rattle.text_expressions.specs.Expression.{truth}
 use Rattle.place_laws.specs.Scope.UnrollLoop.{only_loop}
 use Rattle.config_laws.specs.FieldRule.{Before, Behind}
 use Rattle.config_laws.specs.Differing.{Origin}
@@ -15,21 +14,18 @@ use Rattle.loop_laws.specs.Shapes.{inside}
 use Rattle.schedule_calls.specs.declared.operator.CursorOperator.TheVariants.{Inline, InlineWindow}
 use Rattle.schedule_calls.specs.declared.operator.CursorOperator.TheVariants.{DeleteConfig}
 use Rattle.schedule_calls.specs.declared.operator.WordOperator.TheVariants.{Replace, CallEqv}
-use Rattle.schedule_calls.specs.Requests.{Asked, Here, Operation, At, Rename, WithWord}
+use Rattle.schedule_calls.specs.Requests.{Asked, Here, At, Rename, WithWord}
 use Rattle.schedule_calls.specs.Requests.{WriteConfig, BindConfig, Request, Apply}
 use Rattle.schedule_calls.specs.Requests as request
-use Rattle.schedule_laws.specs.Versions.Versions.{Version, of_text, unmoved, Versions, started}
+use Rattle.schedule_laws.specs.Versions.Versions.{Version, of_text, unmoved, Versions}
 use Rattle.schedule_laws.specs.Versions.Lines as lines
-use Rattle.schedule_laws.specs.Versions.Lines.{Done, Stopped, run_acts}
-use Rattle.schedule_laws.specs.Operators.Operators.{act_of}
+use Rattle.schedule_laws.specs.Versions.Lines.{Done}
 use Rattle.schedule_laws.specs.Operators.Instance as instance
-use Rattle.schedule_laws.specs.Operators.Instance.{procedure, alone_at, child_of, at_head}
+use Rattle.schedule_laws.specs.Operators.Instance.{procedure, alone_at, child_of, at_head, one}
+use Rattle.schedule_laws.specs.Operators.Instance.{the_store, ran, refused}
+use Rattle.schedule_laws.specs.Operators.BufferInstance.{four}
 
 -- ---- the unit
-
--- x = 1
-abbrev pub one : Block
-one = next (Assign 0 [] (Const (pos 1))) end
 
 -- for i in seq(0, HI): b
 abbrev pub in_loop : Control → Block → Block
@@ -59,10 +55,6 @@ unit = record instance.unit {
 abbrev pub the_call : Asked
 the_call = record { source = Here (pattern.Call (Some (codes "g"))) 0; moves = [] }
 
--- 'x = _'
-abbrev pub the_store : Asked
-the_store = record { source = Here (pattern.Assign (Some (codes "x"))) 0; moves = [] }
-
 abbrev pub gap : Asked
 gap = record the_call { moves = request.Before ∷ [] }
 
@@ -70,9 +62,6 @@ gap = record the_call { moves = request.Before ∷ [] }
 abbrev pub the_write : Asked
 the_write =
     record { source = Here (pattern.Config (Some (codes "Cfg")) (Some (codes "w"))) 0; moves = [] }
-
-abbrev pub four : Tree
-four = number (Value 4)
 
 abbrev pub schedule : List Request
 schedule =
@@ -152,36 +141,34 @@ result = record {
 
 -- ---- refusals
 
--- one operator on the procedure with the call
-abbrev pub refused : Operation → lines.Why → Type 0
-refused o why =
-    run_acts (map act_of (Apply (codes "p") (codes "f") o ∷ [])) (started unit 0) ≡ Stopped 0 why
-
 pub record CallsInstance : Type 0 where
-  pub runs : run_acts (map act_of schedule) (started unit 0) ≡ Done result
+  pub runs : ran unit schedule ≡ Done result
   -- f was not made of g
-  pub no_version : refused (At the_call (WithWord CallEqv (codes "f"))) (lines.Step NotDescendant)
+  pub no_version :
+      refused unit (codes "f") (At the_call (WithWord CallEqv (codes "f")))
+      (lines.Step NotDescendant)
   -- a call is no assignment
   pub no_match :
-      refused (At the_call (WithWord Replace (codes "g"))) (lines.Step (NoMatch (inside 0)))
+      refused unit (codes "f") (At the_call (WithWord Replace (codes "g")))
+      (lines.Step (NoMatch (inside 0)))
   -- a call is no view
-  pub no_view : refused (alone_at InlineWindow the_call) (lines.Step WrongShape)
+  pub no_view : refused unit (codes "f") (alone_at InlineWindow the_call) (lines.Step WrongShape)
   -- no gap, no such parameter
   pub no_gap :
-      refused (At the_call (WriteConfig (codes "Cfg") (codes "w") four)) (lines.Step WrongShape)
+      refused unit (codes "f") (At the_call (WriteConfig (codes "Cfg") (codes "w") four))
+      (lines.Step WrongShape)
   pub no_param :
-      refused (At the_call (BindConfig (codes "n") (codes "Cfg") (codes "w")))
+      refused unit (codes "f") (At the_call (BindConfig (codes "n") (codes "Cfg") (codes "w")))
       (lines.Step WrongShape)
   -- a truth value for a size, which is told before the version is looked for
   pub wrong_kind :
-      run_acts
-      (map act_of
-      (Apply (codes "p") (codes "k")
-      (At gap (WriteConfig (codes "Cfg") (codes "w") (truth true))) ∷ []))
-      (started unit 0)
-      ≡ Stopped 0 lines.BadArguments
+      refused unit (codes "k") (At gap (WriteConfig (codes "Cfg") (codes "w") (truth true)))
+      lines.BadArguments
   -- names that stand for nothing
   pub no_field :
-      refused (At gap (WriteConfig (codes "Cfg") (codes "v") four)) lines.UnknownName
-  pub no_name : refused (At the_call (WithWord CallEqv (codes "k"))) lines.UnknownName
-  pub no_callee : refused (At the_call (WithWord Replace (codes "k"))) lines.UnknownName
+      refused unit (codes "f") (At gap (WriteConfig (codes "Cfg") (codes "v") four))
+      lines.UnknownName
+  pub no_name :
+      refused unit (codes "f") (At the_call (WithWord CallEqv (codes "k"))) lines.UnknownName
+  pub no_callee :
+      refused unit (codes "f") (At the_call (WithWord Replace (codes "k"))) lines.UnknownName

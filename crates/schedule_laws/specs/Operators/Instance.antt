@@ -1,8 +1,8 @@
 -- A schedule that is run on a procedure with a `pass` too many: a cursor in it follows its
 -- statement into the version without the `pass`, where an operator takes it.
-use Rattle.std.specs.Prelude.{◌≡◌, ℕ, pos, true, false, List, [], ◌∷◌, None, Some, codes, map}
+use Rattle.std.specs.Prelude.{◌≡◌, ℕ, pos, List, [], ◌∷◌, None, Some, codes, map}
 use Rattle.exo_tree.specs.Tree.{I32, Const, Plus, Assign, Pass, Block, end, next}
-use Rattle.exo_tree.specs.Tree.{TensorParam, Procedure, MemoryKind, Program}
+use Rattle.exo_tree.specs.Tree.{TensorParam, Procedure, Program}
 use Rattle.cursor_forward.specs.Search.Patterns as pattern
 use Rattle.cursor_forward.specs.Causes.{WrongShape}
 use Rattle.config_laws.specs.FieldRule.{Before}
@@ -11,9 +11,10 @@ use Rattle.cursor_forward.specs.Cursors.{Node}
 use Rattle.cursor_forward.specs.Shifts.{Shift, Edits, at_index, stays, edits_of, alone}
 use Rattle.schedule_calls.specs.declared.operator.CursorOperator.{CursorOperator}
 use Rattle.schedule_calls.specs.declared.operator.WholeOperator.TheVariants.{DeletePass}
-use Rattle.schedule_calls.specs.Requests.{Operation, At, Whole, Rename, Alone, CommuteExpr}
-use Rattle.schedule_calls.specs.Requests.{Under, Here}
+use Rattle.schedule_calls.specs.Requests.{Operation, At, Whole, Rename, Alone, CommuteExpr, Here}
 use Rattle.schedule_calls.specs.Requests.{Request, Apply, Search, Emit, Asked, Parent}
+use Rattle.schedule_calls.specs.Instance.{at_c}
+use Rattle.exo_types.specs.MemoryRules.{dram}
 use Rattle.schedule_laws.specs.Versions.Versions.{of_text, unmoved, Version, Versions, started}
 use Rattle.schedule_laws.specs.Versions.Versions as versions
 use Rattle.schedule_laws.specs.Versions.Laws.{AreDerived}
@@ -23,19 +24,6 @@ use Rattle.schedule_laws.specs.Versions.Lines.{Outcome, Done, Stopped, run_acts}
 use Rattle.schedule_laws.specs.Operators.Operators.{act_of}
 
 -- ---- the unit
-
-abbrev pub dram : MemoryKind
-dram = record {
-  name = codes "DRAM";
-  ctype = [];
-  lanes = 0;
-  cell = None;
-  stack = false;
-  read = true;
-  write = true;
-  reduce = true;
-  header = [];
-}
 
 -- of the parameter x: i32
 abbrev pub procedure : List ℕ → Block → Procedure
@@ -60,6 +48,22 @@ first = procedure (codes "f") (next Pass (sum_of 1 2))
 abbrev pub unit : Program
 unit = record { procedures = first ∷ []; fields = []; memories = dram ∷ [] }
 
+-- x = 1, which owes nothing
+abbrev pub one : Block
+one = next (Assign 0 [] (Const (pos 1))) end
+
+-- ---- where operators work
+
+-- 'i', 'if _: _' and 'x = _'
+abbrev pub the_loop : Asked
+the_loop = record { source = Here (pattern.Loop (Some (codes "i"))) 0; moves = [] }
+
+abbrev pub the_fork : Asked
+the_fork = record { source = Here pattern.If 0; moves = [] }
+
+abbrev pub the_store : Asked
+the_store = record { source = Here (pattern.Assign (Some (codes "x"))) 0; moves = [] }
+
 -- ---- the schedule
 
 -- an operator that takes nothing more than its cursor
@@ -69,9 +73,6 @@ alone_at o at = At at (Alone o)
 abbrev pub sum : pattern.ExprPattern
 sum = record { form = pattern.Add; nth = 0 }
 
-abbrev pub of_c : Asked
-of_c = record { source = Under (codes "c"); moves = [] }
-
 abbrev pub schedule : List Request
 schedule =
     -- c = find(f, 'x = _')
@@ -79,7 +80,7 @@ schedule =
     -- p = delete_pass(f)
     ∷ Apply (codes "p") (codes "f") (Whole DeletePass)
     -- q = commute_expr(p, c, '_ + _')
-    ∷ Apply (codes "q") (codes "p") (At of_c (CommuteExpr sum))
+    ∷ Apply (codes "q") (codes "p") (At at_c (CommuteExpr sum))
     -- r = rename(q, 'g')
     ∷ Apply (codes "r") (codes "q") (Rename (codes "g"))
     -- emit(r)
@@ -119,8 +120,13 @@ result = record {
   obligations = 0;
 }
 
-abbrev pub ran : List Request → Outcome
-ran requests = run_acts (map act_of requests) (started unit 0)
+-- these lines on a unit
+abbrev pub ran : Program → List Request → Outcome
+ran u requests = run_acts (map act_of requests) (started u 0)
+
+-- one operator on a procedure of a unit is refused so
+abbrev pub refused : Program → List ℕ → Operation → lines.Why → Type 0
+refused u f o why = ran u (Apply (codes "p") f o ∷ []) ≡ Stopped 0 why
 
 -- ---- refusals
 
@@ -129,14 +135,14 @@ abbrev pub gone : List Request
 gone =
     Search (codes "c") (codes "f") pattern.Pass 0 []
     ∷ Apply (codes "p") (codes "f") (Whole DeletePass)
-    ∷ Apply (codes "q") (codes "p") (At of_c (CommuteExpr sum)) ∷ []
+    ∷ Apply (codes "q") (codes "p") (At at_c (CommuteExpr sum)) ∷ []
 
 -- p = rename(f, 'g'), c = find(p, 'pass'), q = commute_expr(f, c, '_ + _'): f was not made of p
 abbrev pub of_other : List Request
 of_other =
     Apply (codes "p") (codes "f") (Rename (codes "g"))
     ∷ Search (codes "c") (codes "p") pattern.Pass 0 []
-    ∷ Apply (codes "q") (codes "f") (At of_c (CommuteExpr sum)) ∷ []
+    ∷ Apply (codes "q") (codes "f") (At at_c (CommuteExpr sum)) ∷ []
 
 -- p = commute_expr(NAME, 'pass #NTH', '_ + _')
 abbrev pub commuted : List ℕ → ℕ → List Request
@@ -146,16 +152,16 @@ commuted name nth =
     ∷ []
 
 pub record ScheduleInstance : Type 0 where
-  pub runs : ran schedule ≡ Done result
-  pub cursor_gone : ran gone ≡ Stopped 2 (lines.NoPlace place.CursorGone)
-  pub other_version : ran of_other ≡ Stopped 2 (lines.NoPlace place.UnknownCursor)
-  pub no_version : ran (commuted (codes "h") 0) ≡ Stopped 0 lines.UnknownProc
-  pub no_match : ran (commuted (codes "f") 1) ≡ Stopped 0 (lines.NoPlace place.NoSuchPattern)
-  pub wrong_shape : ran (commuted (codes "f") 0) ≡ Stopped 0 (lines.Step WrongShape)
+  pub runs : ran unit schedule ≡ Done result
+  pub cursor_gone : ran unit gone ≡ Stopped 2 (lines.NoPlace place.CursorGone)
+  pub other_version : ran unit of_other ≡ Stopped 2 (lines.NoPlace place.UnknownCursor)
+  pub no_version : ran unit (commuted (codes "h") 0) ≡ Stopped 0 lines.UnknownProc
+  pub no_match : ran unit (commuted (codes "f") 1) ≡ Stopped 0 (lines.NoPlace place.NoSuchPattern)
+  pub wrong_shape : ran unit (commuted (codes "f") 0) ≡ Stopped 0 (lines.Step WrongShape)
   pub no_parent :
-      ran (Search (codes "c") (codes "f") pattern.Pass 0 (Parent ∷ []) ∷ [])
+      ran unit (Search (codes "c") (codes "f") pattern.Pass 0 (Parent ∷ []) ∷ [])
       ≡ Stopped 0 (lines.NoPlace place.NoNeighbour)
-  pub no_emit : ran (Emit (codes "h") ∷ []) ≡ Stopped 0 lines.UnknownProc
+  pub no_emit : ran unit (Emit (codes "h") ∷ []) ≡ Stopped 0 lines.UnknownProc
 
 -- what the schedule leaves is derived
 abbrev pub ResultIsDerived : Type 0

@@ -1,5 +1,5 @@
 -- Schedules that change a loop, and what is refused of loops.
-use Rattle.std.specs.Prelude.{◌≡◌, ℕ, pos, List, [], ◌∷◌, Some, codes, map}
+use Rattle.std.specs.Prelude.{◌≡◌, ℕ, pos, List, [], ◌∷◌, Some, codes}
 use Rattle.exo_tree.specs.Tree.{Control, Lit, Var, Add, Mul, Div, Lt, Const, Assign, For, Block}
 use Rattle.exo_tree.specs.Tree.{end, next, Program}
 use Rattle.text_lexer.specs.declared.token.Literal.TheVariants.{Value}
@@ -8,28 +8,23 @@ use Rattle.text_expressions.specs.Expression.{Tree, number, variable, field, bin
 use Rattle.place_laws.specs.Scope.BranchesAtPlaces.{only_branch}
 use Rattle.place_laws.specs.Scope.UnrollLoop.{only_loop}
 use Rattle.affine_prover.specs.declared.answer.Verdict.TheVariants.{Open}
-use Rattle.cursor_forward.specs.Search.Patterns as pattern
 use Rattle.cursor_forward.specs.Causes.{WrongShape, OutOfScope, LimitPassed}
 use Rattle.cursor_forward.specs.Shifts.{at_index, stays, alone, range, edits_of}
 use Rattle.loop_laws.specs.Shapes.{inside}
 use Rattle.schedule_calls.specs.declared.operator.CursorOperator.TheVariants.{UnrollLoop}
 use Rattle.schedule_calls.specs.declared.operator.ControlOperator.TheVariants.{CutLoop}
-use Rattle.schedule_calls.specs.Requests.{Guard, Asked, Here, Parent, After, Expand, Operation, At}
+use Rattle.schedule_calls.specs.Requests.{Guard, Asked, Parent, After, Expand, Operation, At}
 use Rattle.schedule_calls.specs.Requests.{DivideLoop, WithControl, Specialize}
 use Rattle.schedule_calls.specs.Requests.{Request, Apply, Emit}
-use Rattle.schedule_laws.specs.Versions.Versions.{Version, of_text, unmoved, Versions, started}
+use Rattle.schedule_laws.specs.Versions.Versions.{Version, of_text, unmoved, Versions}
 use Rattle.schedule_laws.specs.Versions.Places as place
 use Rattle.schedule_laws.specs.Versions.Lines as lines
-use Rattle.schedule_laws.specs.Versions.Lines.{Outcome, Done, Stopped, run_acts}
-use Rattle.schedule_laws.specs.Operators.Operators.{act_of}
+use Rattle.schedule_laws.specs.Versions.Lines.{Done}
 use Rattle.schedule_laws.specs.Operators.Instance as instance
 use Rattle.schedule_laws.specs.Operators.Instance.{procedure, alone_at, child_of, at_head}
+use Rattle.schedule_laws.specs.Operators.Instance.{one, the_loop, the_store, ran, refused}
 
 -- ---- the unit
-
--- x = 1, which owes nothing
-abbrev pub one : Block
-one = next (Assign 0 [] (Const (pos 1))) end
 
 -- for i in seq(0, HI): x = 1
 abbrev pub looping : Control → Block
@@ -39,14 +34,6 @@ abbrev pub unit_of : Control → Program
 unit_of hi = record instance.unit { procedures = procedure (codes "f") (looping hi) ∷ [] }
 
 -- ---- operators
-
--- 'i'
-abbrev pub the_loop : Asked
-the_loop = record { source = Here (pattern.Loop (Some (codes "i"))) 0; moves = [] }
-
--- 'x = _'
-abbrev pub the_body : Asked
-the_body = record { source = Here (pattern.Assign (Some (codes "x"))) 0; moves = [] }
 
 -- divide_loop(_, 'i', BY, ['io', 'ii'])
 abbrev pub divided : ℕ → Operation
@@ -67,7 +54,7 @@ abbrev pub below_one : Tree
 below_one = binary operator.Lt (variable (codes "i")) (number (Value 1))
 
 abbrev pub specialized : Operation
-specialized = At the_body (Specialize below_one)
+specialized = At the_store (Specialize below_one)
 
 -- C.f, of which the unit has none
 abbrev pub no_field : Tree
@@ -137,18 +124,14 @@ result = record {
   obligations = 2;
 }
 
--- these lines on a procedure with that bound
-abbrev pub ran : Control → List Request → Outcome
-ran hi requests = run_acts (map act_of requests) (started (unit_of hi) 0)
-
--- one operator on f
-abbrev pub alone_ran : Control → Operation → Outcome
-alone_ran hi o = ran hi (Apply (codes "p") (codes "f") o ∷ [])
-
 -- ---- refusals
 
-abbrev pub refused : Operation → lines.Why → Type 0
-refused o why = alone_ran (Lit (pos 2)) o ≡ Stopped 0 why
+-- of two turns
+abbrev pub two_turns : Program
+two_turns = unit_of (Lit (pos 2))
+
+abbrev pub not_of_two : Operation → lines.Why → Type 0
+not_of_two = refused two_turns (codes "f")
 
 -- what is round the loop, of which there is nothing; the gap behind it, and the block of it alone
 abbrev pub above_loop : Asked
@@ -161,26 +144,27 @@ abbrev pub block_of_one : Asked
 block_of_one = record the_loop { moves = Expand 0 0 ∷ [] }
 
 pub record LoopsInstance : Type 0 where
-  pub runs : ran (Lit (pos 2)) schedule ≡ Done result
+  pub runs : ran two_turns schedule ≡ Done result
   -- groups of no turn
-  pub no_group : refused (divided 0) (lines.Step WrongShape)
+  pub no_group : not_of_two (divided 0) (lines.Step WrongShape)
   -- no loop
-  pub no_loop : refused (alone_at UnrollLoop the_body) (lines.Step WrongShape)
+  pub no_loop : not_of_two (alone_at UnrollLoop the_store) (lines.Step WrongShape)
   -- seq(0, 257)
-  pub many_turns : alone_ran (Lit (pos 257)) unrolled ≡ Stopped 0 (lines.Step LimitPassed)
+  pub many_turns :
+      refused (unit_of (Lit (pos 257))) (codes "f") unrolled (lines.Step LimitPassed)
   -- cut at 3, which is not at most 2
   pub cut_outside :
-      refused (cut_at (number (Value 3))) (lines.NotShown (codes "3 <= 2") (at_index 0) Open)
+      not_of_two (cut_at (number (Value 3))) (lines.NotShown (codes "3 <= 2") (at_index 0) Open)
   -- the loop's own variable is not in scope before the loop
-  pub own_variable : refused (cut_at (variable (codes "i"))) (lines.Step OutOfScope)
+  pub own_variable : not_of_two (cut_at (variable (codes "i"))) (lines.Step OutOfScope)
   -- a field that is none is refused before the cursor is looked for
-  pub no_control : refused (At above_loop (WithControl CutLoop no_field)) lines.UnknownName
-  pub no_condition : refused (At above_loop (Specialize no_field)) lines.UnknownName
+  pub no_control : not_of_two (At above_loop (WithControl CutLoop no_field)) lines.UnknownName
+  pub no_condition : not_of_two (At above_loop (Specialize no_field)) lines.UnknownName
   pub no_neighbour :
-      refused (At above_loop (Specialize below_one)) (lines.NoPlace place.NoNeighbour)
+      not_of_two (At above_loop (Specialize below_one)) (lines.NoPlace place.NoNeighbour)
   -- a block, also of one statement, where a statement is asked
-  pub block_for_loop : refused (alone_at UnrollLoop block_of_one) (lines.Step WrongShape)
+  pub block_for_loop : not_of_two (alone_at UnrollLoop block_of_one) (lines.Step WrongShape)
   -- a gap
-  pub gap_for_block : refused (At behind_loop (Specialize below_one)) (lines.Step WrongShape)
+  pub gap_for_block : not_of_two (At behind_loop (Specialize below_one)) (lines.Step WrongShape)
   -- a block may be specialized, and the condition is read before its first statement
-  pub before_block : refused (At block_of_one (Specialize below_one)) (lines.Step OutOfScope)
+  pub before_block : not_of_two (At block_of_one (Specialize below_one)) (lines.Step OutOfScope)

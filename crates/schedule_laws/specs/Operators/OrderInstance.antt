@@ -1,13 +1,14 @@
 -- Schedules that change the order of loops and statements or take some away, and what is refused of
 -- these.
-use Rattle.std.specs.Prelude.{◌≡◌, ℕ, pos, List, [], ◌∷◌, None, Some, codes, map}
+use Rattle.std.specs.Prelude.{◌≡◌, ℕ, pos, List, [], ◌∷◌, None, Some, codes}
 use Rattle.exo_tree.specs.Tree.{I32, Lit, Lt, Const, Assign, Reduce, Pass, For, Block, end, next}
 use Rattle.exo_tree.specs.Tree.{Statement, TensorParam, Param, Procedure, Program}
 use Rattle.exo_tree.specs.Places.{Main, Else}
+use Rattle.place_laws.specs.Order.Statements.{one}
+use Rattle.place_laws.specs.Order.Reorder.{pair}
 use Rattle.place_laws.specs.Scope.BranchesAtPlaces.{only_branch}
 use Rattle.place_laws.specs.Scope.UnrollLoop.{only_loop}
 use Rattle.affine_prover.specs.declared.answer.Verdict.TheVariants.{Open}
-use Rattle.cursor_forward.specs.Search.Patterns as pattern
 use Rattle.cursor_forward.specs.Causes.{WrongShape, NotIdempotent}
 use Rattle.cursor_forward.specs.Shifts.{at_index, alone, range, edits_of}
 use Rattle.loop_laws.specs.Shapes.{inside}
@@ -18,14 +19,14 @@ use Rattle.schedule_calls.specs.declared.operator.CursorOperator.TheVariants.{Re
 use Rattle.schedule_calls.specs.declared.operator.CursorOperator.TheVariants.{Fuse}
 use Rattle.schedule_calls.specs.declared.operator.CursorOperator.TheVariants.{RemoveLoop}
 use Rattle.schedule_calls.specs.declared.operator.CursorOperator.TheVariants.{ReorderStmts}
-use Rattle.schedule_calls.specs.Requests.{Asked, Here, Before, After, Operation, At}
+use Rattle.schedule_calls.specs.Requests.{Asked, Before, After, Operation, At}
 use Rattle.schedule_calls.specs.Requests.{EliminateDeadCode, Request, Apply, Emit}
-use Rattle.schedule_laws.specs.Versions.Versions.{Version, of_text, unmoved, Versions, started}
+use Rattle.schedule_laws.specs.Versions.Versions.{Version, of_text, unmoved, Versions}
 use Rattle.schedule_laws.specs.Versions.Lines as lines
-use Rattle.schedule_laws.specs.Versions.Lines.{Outcome, Done, Stopped, run_acts}
-use Rattle.schedule_laws.specs.Operators.Operators.{act_of}
+use Rattle.schedule_laws.specs.Versions.Lines.{Done}
 use Rattle.schedule_laws.specs.Operators.Instance as instance
-use Rattle.schedule_laws.specs.Operators.Instance.{alone_at, child_of, at_head}
+use Rattle.schedule_laws.specs.Operators.Instance.{alone_at, child_of, at_head, ran, refused}
+use Rattle.schedule_laws.specs.Operators.Instance.{the_loop, the_fork, the_store}
 
 -- ---- the unit
 
@@ -52,12 +53,6 @@ x_is n = Assign 0 [] (Const (pos n))
 abbrev pub y_is : ℕ → Statement
 y_is n = Assign 1 [] (Const (pos n))
 
-abbrev pub alone_is : Statement → Block
-alone_is a = next a end
-
-abbrev pub both : Statement → Statement → Block
-both a b = next a (next b end)
-
 -- for i in seq(LO, HI): b, and the same of j
 abbrev pub loop_i : ℕ → ℕ → Block → Block
 loop_i lo hi b =
@@ -70,20 +65,20 @@ loop_j lo hi b =
 -- for i in seq(0, 2): a, for NAME in seq(0, 2): b
 abbrev pub two_loops : List ℕ → Statement → Statement → Block
 two_loops name a b =
-    next (For (record { id = 2; name = codes "i" }) (Lit (pos 0)) (Lit (pos 2)) (alone_is a))
-    (only_loop (record { id = 3; name = name }) (Lit (pos 0)) (Lit (pos 2)) (alone_is b))
+    next (For (record { id = 2; name = codes "i" }) (Lit (pos 0)) (Lit (pos 2)) (one a))
+    (only_loop (record { id = 3; name = name }) (Lit (pos 0)) (Lit (pos 2)) (one b))
 
 -- for i in seq(0, 2): x = 1, y = 2
 abbrev pub in_one : Block
-in_one = loop_i 0 2 (both (x_is 1) (y_is 2))
+in_one = loop_i 0 2 (pair (x_is 1) (y_is 2))
 
 -- for i in seq(0, 2): for j in seq(1, 3): pass
 abbrev pub nest : Block
-nest = loop_i 0 2 (loop_j 1 3 (alone_is Pass))
+nest = loop_i 0 2 (loop_j 1 3 (one Pass))
 
 -- if 0 < 1: for i in seq(3, 3): x = 1
 abbrev pub no_turn : Block
-no_turn = loop_i 3 3 (alone_is (x_is 1))
+no_turn = loop_i 3 3 (one (x_is 1))
 
 abbrev pub dead : Block
 dead = only_branch (Lt (Lit (pos 0)) (Lit (pos 1))) no_turn end
@@ -98,17 +93,7 @@ unit = record instance.unit {
 
 -- ---- where operators work
 
--- 'i', 'if _: _' and 'x = _'
-abbrev pub the_loop : Asked
-the_loop = record { source = Here (pattern.Loop (Some (codes "i"))) 0; moves = [] }
-
-abbrev pub the_fork : Asked
-the_fork = record { source = Here pattern.If 0; moves = [] }
-
-abbrev pub the_write : Asked
-the_write = record { source = Here (pattern.Assign (Some (codes "x"))) 0; moves = [] }
-
--- the gaps behind and before it
+-- the gaps behind and before a statement
 abbrev pub gap_behind : Asked → Asked
 gap_behind at = record at { moves = After ∷ [] }
 
@@ -120,11 +105,11 @@ gap_before at = record at { moves = Before ∷ [] }
 abbrev pub schedule : List Request
 schedule =
     -- p = fission(f, gap behind 'x = _')
-    Apply (codes "p") (codes "f") (alone_at Fission (gap_behind the_write))
+    Apply (codes "p") (codes "f") (alone_at Fission (gap_behind the_store))
     -- q = fuse(p, 'i')
     ∷ Apply (codes "q") (codes "p") (alone_at Fuse the_loop)
     -- r = reorder_stmts(q, 'x = _')
-    ∷ Apply (codes "r") (codes "q") (alone_at ReorderStmts the_write)
+    ∷ Apply (codes "r") (codes "q") (alone_at ReorderStmts the_store)
     -- s = remove_loop(r, 'i')
     ∷ Apply (codes "s") (codes "r") (alone_at RemoveLoop the_loop)
     -- t = reorder_loops(g, 'i')
@@ -145,11 +130,11 @@ result = record {
         ∷ procedure (codes "h") dead
         ∷ procedure (codes "f") (two_loops (codes "i") (x_is 1) (y_is 2))
         ∷ procedure (codes "f") in_one
-        ∷ procedure (codes "f") (loop_i 0 2 (both (y_is 2) (x_is 1)))
-        ∷ procedure (codes "f") (both (y_is 2) (x_is 1))
-        ∷ procedure (codes "g") (loop_j 1 3 (loop_i 0 2 (alone_is Pass)))
+        ∷ procedure (codes "f") (loop_i 0 2 (pair (y_is 2) (x_is 1)))
+        ∷ procedure (codes "f") (pair (y_is 2) (x_is 1))
+        ∷ procedure (codes "g") (loop_j 1 3 (loop_i 0 2 (one Pass)))
         ∷ procedure (codes "h") no_turn
-        ∷ procedure (codes "h") (alone_is Pass) ∷ [];
+        ∷ procedure (codes "h") (one Pass) ∷ [];
   };
   origins =
       of_text
@@ -198,21 +183,15 @@ result = record {
   obligations = 3;
 }
 
-abbrev pub ran : List Request → Outcome
-ran requests = run_acts (map act_of requests) (started unit 0)
-
 -- ---- refusals
 
 -- one operator on a procedure with that body
-abbrev pub refused : Block → Operation → lines.Why → Type 0
-refused b o why =
-    run_acts (map act_of (Apply (codes "p") (codes "f") o ∷ []))
-    (started (record unit { procedures = procedure (codes "f") b ∷ [] }) 0)
-    ≡ Stopped 0 why
+abbrev pub not_of : Block → Operation → lines.Why → Type 0
+not_of b = refused (record unit { procedures = procedure (codes "f") b ∷ [] }) (codes "f")
 
 -- for i in seq(0, 2): a
 abbrev pub each_turn : Statement → Block
-each_turn a = loop_i 0 2 (alone_is a)
+each_turn a = loop_i 0 2 (one a)
 
 -- x += 1
 abbrev pub x_grows : Statement
@@ -226,33 +205,33 @@ abbrev pub not_shown : List ℕ → lines.Why
 not_shown what = lines.NotShown what (at_index 0) Open
 
 pub record OrderInstance : Type 0 where
-  pub runs : ran schedule ≡ Done result
+  pub runs : ran unit schedule ≡ Done result
   -- x is written in another order
   pub turns_clash :
-      refused (loop_i 0 2 (loop_j 0 2 (alone_is (x_is 1)))) (alone_at ReorderLoops the_loop) clash
+      not_of (loop_i 0 2 (loop_j 0 2 (one (x_is 1)))) (alone_at ReorderLoops the_loop) clash
   pub parts_clash :
-      refused (loop_i 0 2 (both (x_is 1) (x_is 2))) (alone_at Fission (gap_behind the_write)) clash
-  pub loops_clash : refused (two_loops (codes "j") (x_is 1) (x_is 2)) (alone_at Fuse the_loop) clash
-  pub statements_clash : refused (both (x_is 1) (x_is 2)) (alone_at ReorderStmts the_write) clash
+      not_of (loop_i 0 2 (pair (x_is 1) (x_is 2))) (alone_at Fission (gap_behind the_store)) clash
+  pub loops_clash : not_of (two_loops (codes "j") (x_is 1) (x_is 2)) (alone_at Fuse the_loop) clash
+  pub statements_clash : not_of (pair (x_is 1) (x_is 2)) (alone_at ReorderStmts the_store) clash
   -- a statement where a gap is asked, a gap in no loop, and a gap before all statements of one
-  pub no_gap : refused in_one (alone_at Fission the_write) (lines.Step WrongShape)
-  pub gap_outside : refused in_one (alone_at Fission (gap_behind the_loop)) (lines.Step WrongShape)
-  pub first_gap : refused in_one (alone_at Fission (gap_before the_write)) (lines.Step WrongShape)
+  pub no_gap : not_of in_one (alone_at Fission the_store) (lines.Step WrongShape)
+  pub gap_outside : not_of in_one (alone_at Fission (gap_behind the_loop)) (lines.Step WrongShape)
+  pub first_gap : not_of in_one (alone_at Fission (gap_before the_store)) (lines.Step WrongShape)
   -- a gap where a statement is asked
   pub gap_for_loop :
-      refused in_one (alone_at RemoveLoop (gap_behind the_loop)) (lines.Step WrongShape)
+      not_of in_one (alone_at RemoveLoop (gap_behind the_loop)) (lines.Step WrongShape)
   -- each turn adds to what the turns before it left
   pub turns_differ :
-      refused (each_turn x_grows) (alone_at RemoveLoop the_loop) (lines.Step NotIdempotent)
+      not_of (each_turn x_grows) (alone_at RemoveLoop the_loop) (lines.Step NotIdempotent)
   -- seq(3, 3) has no turn, and seq(0, 2) has one
-  pub no_first_turn : refused no_turn (alone_at RemoveLoop the_loop) (not_shown (codes "3 < 3"))
+  pub no_first_turn : not_of no_turn (alone_at RemoveLoop the_loop) (not_shown (codes "3 < 3"))
   pub has_turns :
-      refused (each_turn (x_is 1)) (At the_loop (EliminateDeadCode None))
+      not_of (each_turn (x_is 1)) (At the_loop (EliminateDeadCode None))
       (not_shown (codes "2 <= 0"))
   -- the branch behind `else` is not the one that is taken
   pub not_taken :
-      refused dead (At the_fork (EliminateDeadCode (Some Else))) (not_shown (codes "not (0 < 1)"))
+      not_of dead (At the_fork (EliminateDeadCode (Some Else))) (not_shown (codes "not (0 < 1)"))
   -- a condition without the branch that is kept, and a loop with it
-  pub no_key : refused dead (At the_fork (EliminateDeadCode None)) (lines.Step WrongShape)
+  pub no_key : not_of dead (At the_fork (EliminateDeadCode None)) (lines.Step WrongShape)
   pub key_of_loop :
-      refused no_turn (At the_loop (EliminateDeadCode (Some Main))) (lines.Step WrongShape)
+      not_of no_turn (At the_loop (EliminateDeadCode (Some Main))) (lines.Step WrongShape)

@@ -1,6 +1,6 @@
 -- A schedule that joins, shifts and multiplies loops and lifts a condition, and what is refused of
 -- it.
-use Rattle.std.specs.Prelude.{◌≡◌, ℕ, pos, List, [], ◌∷◌, Some, codes, map}
+use Rattle.std.specs.Prelude.{◌≡◌, pos, List, [], ◌∷◌, Some, codes}
 use Rattle.exo_tree.specs.Tree.{Lit, Add, Sub, Mul, Lt, Block, Program}
 use Rattle.text_lexer.specs.declared.token.Literal.TheVariants.{Value}
 use Rattle.text_expressions.specs.declared.source.Operator.TheVariants as operator
@@ -8,22 +8,21 @@ use Rattle.text_expressions.specs.Expression.{Tree, number, binary}
 use Rattle.place_laws.specs.Scope.BranchesAtPlaces.{only_branch}
 use Rattle.place_laws.specs.Scope.UnrollLoop.{only_loop}
 use Rattle.affine_prover.specs.declared.answer.Verdict.TheVariants.{Open}
-use Rattle.cursor_forward.specs.Search.Patterns as pattern
 use Rattle.cursor_forward.specs.Causes.{WrongShape, NameTaken}
 use Rattle.cursor_forward.specs.Shifts.{at_index, stays, alone, range, edits_of}
 use Rattle.loop_laws.specs.Shapes.{inside}
 use Rattle.proc_laws.specs.Statement.LiftScope.{turned_round, else_in_loop, loop_in_else}
 use Rattle.schedule_calls.specs.declared.operator.CursorOperator.TheVariants.{JoinLoops, LiftScope}
 use Rattle.schedule_calls.specs.declared.operator.ControlOperator.TheVariants.{CutLoop, ShiftLoop}
-use Rattle.schedule_calls.specs.Requests.{Asked, Here, Operation, At, WithControl, MultLoops}
+use Rattle.schedule_calls.specs.Requests.{At, WithControl, MultLoops}
 use Rattle.schedule_calls.specs.Requests.{Specialize, Request, Apply}
-use Rattle.schedule_laws.specs.Versions.Versions.{Version, of_text, unmoved, Versions, started}
+use Rattle.schedule_laws.specs.Versions.Versions.{Version, of_text, unmoved, Versions}
 use Rattle.schedule_laws.specs.Versions.Lines as lines
-use Rattle.schedule_laws.specs.Versions.Lines.{Done, Stopped, run_acts}
-use Rattle.schedule_laws.specs.Operators.Operators.{act_of}
+use Rattle.schedule_laws.specs.Versions.Lines.{Done}
 use Rattle.schedule_laws.specs.Operators.Instance as instance
-use Rattle.schedule_laws.specs.Operators.Instance.{procedure, alone_at, child_of, at_head}
-use Rattle.schedule_laws.specs.Operators.LoopInstance.{one, looping, in_two, the_loop, the_body}
+use Rattle.schedule_laws.specs.Operators.Instance.{procedure, alone_at, child_of, at_head, one}
+use Rattle.schedule_laws.specs.Operators.Instance.{the_loop, the_fork, the_store, ran, refused}
+use Rattle.schedule_laws.specs.Operators.LoopInstance.{looping, in_two}
 use Rattle.schedule_laws.specs.Operators.LoopInstance.{above_loop, no_field}
 
 -- ---- the unit
@@ -45,9 +44,6 @@ unit = record instance.unit {
 
 -- ---- the schedule
 
-abbrev pub the_fork : Asked
-the_fork = record { source = Here pattern.If 0; moves = [] }
-
 -- 0 < 1
 abbrev pub always : Tree
 always = binary operator.Lt (number (Value 0)) (number (Value 1))
@@ -63,7 +59,7 @@ schedule =
     -- s = mult_loops(g, 'i', 'k')
     ∷ Apply (codes "s") (codes "g") (At the_loop (MultLoops (codes "k")))
     -- t = specialize(f, 'x = _', '0 < 1')
-    ∷ Apply (codes "t") (codes "f") (At the_body (Specialize always))
+    ∷ Apply (codes "t") (codes "f") (At the_store (Specialize always))
     -- u = lift_scope(t, 'if _: _')
     ∷ Apply (codes "u") (codes "t") (alone_at LiftScope the_fork) ∷ []
 
@@ -141,31 +137,27 @@ result = record {
 
 -- ---- refusals
 
--- one operator on a procedure of the unit
-abbrev pub refused : List ℕ → Operation → lines.Why → Type 0
-refused of o why =
-    run_acts (map act_of (Apply (codes "p") of o ∷ [])) (started unit 0) ≡ Stopped 0 why
-
 -- 0 - 1
 abbrev pub below_zero : Tree
 below_zero = binary operator.Sub (number (Value 0)) (number (Value 1))
 
 pub record ScopesInstance : Type 0 where
-  pub runs : run_acts (map act_of schedule) (started unit 0) ≡ Done result
+  pub runs : ran unit schedule ≡ Done result
   -- no loop behind
-  pub none_behind : refused (codes "f") (alone_at JoinLoops the_loop) (lines.Step WrongShape)
+  pub none_behind : refused unit (codes "f") (alone_at JoinLoops the_loop) (lines.Step WrongShape)
   -- no loop in it
   pub none_within :
-      refused (codes "f") (At the_loop (MultLoops (codes "k"))) (lines.Step WrongShape)
+      refused unit (codes "f") (At the_loop (MultLoops (codes "k"))) (lines.Step WrongShape)
   -- the name of the parameter
-  pub name_taken : refused (codes "g") (At the_loop (MultLoops (codes "x"))) (lines.Step NameTaken)
+  pub name_taken :
+      refused unit (codes "g") (At the_loop (MultLoops (codes "x"))) (lines.Step NameTaken)
   -- from a negative number on
   pub from_below :
-      refused (codes "f") (At the_loop (WithControl ShiftLoop below_zero))
+      refused unit (codes "f") (At the_loop (WithControl ShiftLoop below_zero))
       (lines.NotShown (codes "0 <= 0 - 1") (at_index 0) Open)
   -- a field that is none is refused before the cursor is looked for
   pub no_start :
-      refused (codes "f") (At above_loop (WithControl ShiftLoop no_field)) lines.UnknownName
+      refused unit (codes "f") (At above_loop (WithControl ShiftLoop no_field)) lines.UnknownName
   -- an assignment, and a loop round which nothing stands
-  pub no_scope : refused (codes "f") (alone_at LiftScope the_body) (lines.Step WrongShape)
-  pub none_round : refused (codes "f") (alone_at LiftScope the_loop) (lines.Step WrongShape)
+  pub no_scope : refused unit (codes "f") (alone_at LiftScope the_store) (lines.Step WrongShape)
+  pub none_round : refused unit (codes "f") (alone_at LiftScope the_loop) (lines.Step WrongShape)

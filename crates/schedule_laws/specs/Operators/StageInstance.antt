@@ -1,6 +1,6 @@
 -- A schedule that puts a loop and a statement on buffers of their own, and what is refused of such
 -- steps.
-use Rattle.std.specs.Prelude.{◌≡◌, ℕ, pos, true, false, List, [], ◌∷◌, Some, codes, map}
+use Rattle.std.specs.Prelude.{◌≡◌, ℕ, pos, true, false, List, [], ◌∷◌, Some, codes}
 use Rattle.exo_tree.specs.Tree.{I32, Control, Lit, Var, Add, Mul, Const, Read, Assign, Alloc, For}
 use Rattle.exo_tree.specs.Tree.{Block, Statement, end, next, TensorParam, Procedure, Program}
 use Rattle.exo_tree.specs.Places.{Main, Path}
@@ -9,19 +9,18 @@ use Rattle.text_expressions.specs.declared.source.Operator.TheVariants as operat
 use Rattle.text_expressions.specs.Expression.{Tree, number, variable, binary}
 use Rattle.exo_reader.specs.Source.{span}
 use Rattle.affine_prover.specs.declared.answer.Verdict.TheVariants.{Open}
-use Rattle.cursor_forward.specs.Search.Patterns as pattern
 use Rattle.cursor_forward.specs.Causes.{WrongShape, OutOfScope, NotOnlyReduced, NameTaken}
 use Rattle.cursor_forward.specs.Shifts.{Edits, at_index, range, edits_of}
 use Rattle.alloc_laws.specs.Lifting.{within}
-use Rattle.schedule_calls.specs.Requests.{Asked, Here, Window, Operation, At, StageMem}
+use Rattle.schedule_calls.specs.Requests.{Asked, Window, Operation, At, StageMem}
 use Rattle.schedule_calls.specs.Requests.{Request, Apply}
-use Rattle.schedule_laws.specs.Versions.Versions.{Version, of_text, unmoved, Versions, started}
+use Rattle.schedule_laws.specs.Versions.Versions.{Version, of_text, unmoved, Versions}
 use Rattle.schedule_laws.specs.Versions.Lines as lines
-use Rattle.schedule_laws.specs.Versions.Lines.{Outcome, Done, Stopped, run_acts}
-use Rattle.schedule_laws.specs.Operators.Operators.{act_of}
+use Rattle.schedule_laws.specs.Versions.Lines.{Done}
 use Rattle.schedule_laws.specs.Operators.Instance as instance
-use Rattle.schedule_laws.specs.Operators.Instance.{procedure, child_of}
-use Rattle.schedule_laws.specs.Operators.LoopInstance.{the_loop, no_field, above_loop, behind_loop}
+use Rattle.schedule_laws.specs.Operators.Instance.{procedure, child_of, the_loop, the_store}
+use Rattle.schedule_laws.specs.Operators.Instance.{ran, refused}
+use Rattle.schedule_laws.specs.Operators.LoopInstance.{no_field, above_loop, behind_loop}
 use Rattle.schedule_laws.specs.Operators.LoopInstance.{block_of_one}
 
 -- ---- the unit
@@ -56,10 +55,6 @@ abbrev pub unit : Program
 unit = record instance.unit { procedures = of_eight sevens ∷ [] }
 
 -- ---- the schedule
-
--- 'x[_] = _'
-abbrev pub the_store : Asked
-the_store = record { source = Here (pattern.Assign (Some (codes "x"))) 0; moves = [] }
 
 abbrev pub count_of : ℕ → Tree
 count_of n = number (Value n)
@@ -130,14 +125,7 @@ result = record {
   obligations = 28;
 }
 
-abbrev pub ran : List Request → Outcome
-ran requests = run_acts (map act_of requests) (started unit 0)
-
 -- ---- refusals
-
--- one operator on the procedure
-abbrev pub refused : Operation → lines.Why → Type 0
-refused o why = ran (Apply (codes "p") (codes "f") o ∷ []) ≡ Stopped 0 why
 
 -- x[0:C.f], of a field that is none
 abbrev pub of_no_field : Window
@@ -149,26 +137,27 @@ of_rank_two =
     (codes "x", span (count_of 0) (count_of 8) ∷ span (count_of 0) (count_of 8) ∷ [])
 
 pub record StageInstance : Type 0 where
-  pub runs : ran schedule ≡ Done result
+  pub runs : ran unit schedule ≡ Done result
   -- an access outside of the window
   pub outside :
-      refused (staged the_loop (first_of (codes "x") 4))
+      refused unit (codes "f") (staged the_loop (first_of (codes "x") 4))
       (lines.NotShown (codes "2 * i < 4") (within 0 Main 0) Open)
   -- sums are kept of a block that writes
   pub written :
-      refused (At the_loop (StageMem (first_of (codes "x") 8) (codes "t") true))
+      refused unit (codes "f") (At the_loop (StageMem (first_of (codes "x") 8) (codes "t") true))
       (lines.Step NotOnlyReduced)
   -- names of the window that are not in scope: of a buffer, and the loop's own before it
-  pub no_buffer : refused (staged the_loop (first_of (codes "y") 8)) (lines.Step OutOfScope)
-  pub own_variable : refused (staged the_loop one_even) (lines.Step OutOfScope)
+  pub no_buffer :
+      refused unit (codes "f") (staged the_loop (first_of (codes "y") 8)) (lines.Step OutOfScope)
+  pub own_variable : refused unit (codes "f") (staged the_loop one_even) (lines.Step OutOfScope)
   -- a block of one statement is one; the window is read before its first statement
-  pub before_block : refused (staged block_of_one one_even) (lines.Step OutOfScope)
-  pub of_other_rank : refused (staged the_loop of_rank_two) (lines.Step WrongShape)
+  pub before_block : refused unit (codes "f") (staged block_of_one one_even) (lines.Step OutOfScope)
+  pub of_other_rank : refused unit (codes "f") (staged the_loop of_rank_two) (lines.Step WrongShape)
   pub gap_for_block :
-      refused (staged behind_loop (first_of (codes "x") 8)) (lines.Step WrongShape)
+      refused unit (codes "f") (staged behind_loop (first_of (codes "x") 8)) (lines.Step WrongShape)
   -- the name of the parameter
   pub name_taken :
-      refused (At the_loop (StageMem (first_of (codes "x") 8) (codes "x") false))
+      refused unit (codes "f") (At the_loop (StageMem (first_of (codes "x") 8) (codes "x") false))
       (lines.Step NameTaken)
   -- a field that is none is refused before the cursor is looked for
-  pub no_such_field : refused (staged above_loop of_no_field) lines.UnknownName
+  pub no_such_field : refused unit (codes "f") (staged above_loop of_no_field) lines.UnknownName

@@ -2,8 +2,9 @@
 use Rattle.std.specs.Prelude.{◌==◌, cond, ℕ, pos, List, [], ◌∷◌, ◌++◌}
 use Rattle.exo_tree.specs.Tree.{Control, Lit, Condition, Eq, Le, Lt, Coord, At, Span, Datum}
 use Rattle.exo_tree.specs.Tree.{Argument, ControlArg, ConditionArg, Whole, Window}
-use Rattle.buffer_laws.specs.StageMem.{asked_of_indices, asked_of_coords, whole_coords}
+use Rattle.buffer_laws.specs.StageMem.{asked_of_indices, asked_of_coords}
 use Rattle.buffer_laws.specs.StageMem.{asked_of_datum}
+use Rattle.match_laws.specs.Names.{whole_of}
 
 -- that an index lies within a coordinate of the window
 abbrev pub asked_of_index : Coord → Control → List Condition
@@ -30,5 +31,5 @@ module _ (x : ℕ) (dims : List Control) (coords : List Coord) where
   abbrev pub asked_of_argument : Argument → List Condition
   asked_of_argument (ControlArg e) = []
   asked_of_argument (ConditionArg c) = []
-  asked_of_argument (Whole y) = cond (y == x) (asked_of_coords coords (whole_coords dims)) []
+  asked_of_argument (Whole y) = cond (y == x) (asked_of_coords coords (whole_of dims)) []
   asked_of_argument (Window y ds) = cond (y == x) (asked_of_coords coords ds) []

@@ -4,10 +4,11 @@ ghost use Rattle.exo_tree.specs.PlainArgument.{argument};
 ghost use Rattle.exo_tree.specs.PlainControl.{control, coordinate};
 ghost use Rattle.exo_tree.specs.PlainDatum.{datum};
 ghost use Rattle.exo_tree.specs.PlainStatement.{statement};
-ghost use Rattle.buffer_laws.specs.StageMem.{asked_of_indices, asked_of_coords, whole_coords};
+ghost use Rattle.buffer_laws.specs.StageMem.{asked_of_indices, asked_of_coords};
 ghost use Rattle.buffer_laws.specs.StageMem.{asked_of_datum, asked_of_arguments};
 ghost use Rattle.buffer_laws.specs.StageMem.{asked_of_statement};
 ghost use Rattle.stage_rewrites.specs.Needs.Single.{asked_of_store, asked_of_argument};
+ghost use Rattle.match_laws.specs.Names.{whole_of};
 
 use crate::needs::sides::{push_coords, push_indices};
 use exo_tree::{Arg, Conds, Coord, Coords, Ctrl, DataExpr, Id, Indices, Stmt};
@@ -15,7 +16,7 @@ use std::alloc::{AllocError, Global};
 
 /// The window of all of a buffer of these dimensions.
 fn whole_coords(alloc: Global, dims: &[Ctrl]) -> Result<Coords, AllocError>
-    ensures { IfOk result (λ cs. cs ≡ whole_coords (map control dims.now)) }
+    ensures { IfOk result (λ cs. cs ≡ whole_of (map control dims.now)) }
 {
     let mut coords = Coords::new(alloc);
     for d in dims {

@@ -5,8 +5,9 @@ ghost use Rattle.exo_tree.specs.Tree.{block};
 ghost use Rattle.exo_tree.specs.PlainArgument.{argument};
 ghost use Rattle.exo_tree.specs.PlainControl.{control, coordinate};
 ghost use Rattle.exo_tree.specs.PlainStatement.{statement};
-ghost use Rattle.buffer_laws.specs.StageMem.{has_span_at_point, whole_coords};
+ghost use Rattle.buffer_laws.specs.StageMem.{has_span_at_point};
 ghost use Rattle.alloc_laws.specs.Goes.Fits.{argument_spans, has_spans, step_has_spans};
+ghost use Rattle.match_laws.specs.Names.{whole_of};
 
 use exo_tree::{Arg, Block, Coord, Ctrl, Id, Stmt};
 
@@ -26,7 +27,7 @@ fn has_span(window: &[Coord], coords: &[Coord]) -> bool
 /// Whether a window has a point in one of so many dimensions.
 fn has_point(window: &[Coord], dims: &[Ctrl]) -> bool
     ensures { result
-        ≡ has_span_at_point (map coordinate window.now) (whole_coords (map control dims.now)) }
+        ≡ has_span_at_point (map coordinate window.now) (whole_of (map control dims.now)) }
 {
     match (window.split_first(), dims.split_first()) {
         (Some((Coord::At(_), _)), Some(_)) => true,

@@ -80,15 +80,9 @@ own_name (Some copies) x = if nat_lt x.id copies then x.name ∷ [] else []
 
 -- what a statement leaves to its block
 abbrev pub top_name : Option ℕ → Statement → List Name
-top_name copies (Assign x is e) = []
-top_name copies (Reduce x is e) = []
-top_name copies (Config f a) = []
-top_name copies Pass = []
-top_name copies (If c a b) = []
-top_name copies (For i lo hi b) = []
 top_name copies (Alloc x cell dims memory) = own_name copies x
 top_name copies (View w x coords) = own_name copies w
-top_name copies (Call k args) = []
+top_name copies _ = []
 
 abbrev pub top_names : Option ℕ → Block → List Name
 top_names copies end = []

@@ -15,6 +15,11 @@ has_nothing first (InElse t other c rest) = has_nothing true c
 abbrev pub is_alone : Context → Bool
 is_alone c = has_nothing true c
 
+-- an empty block becomes one `pass`
+abbrev pub or_one_pass : Block → Block
+or_one_pass end = next Pass end
+or_one_pass (next a b) = next a b
+
 -- a new `pass` in the place of nothing
 abbrev pub pass_for : Bool → Block → Block
 pass_for alone b = if alone && is_empty b then next Pass end else b

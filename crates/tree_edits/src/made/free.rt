@@ -6,14 +6,6 @@ ghost use Rattle.tree_edits.specs.Made.Numbers.{IsNumber, Noted, AllNoted, set_b
 use exo_tree::Name;
 use std::alloc::{AllocError, Global};
 
-/// The name with a number.
-fn numbered(alloc: Global, x: &str, k: usize) -> Result<Name, AllocError>
-    ensures { IfOk result (λ n. n ≡ plain.numbered x.now k) }
-{
-    let text = format!(in alloc; "{x}_{k}")?;
-    Ok(Name::new(alloc, text.as_str())?)
-}
-
 /// The number from 1 on whose decimal digits the text is.
 fn number_in_digits(text: &str) -> Option<usize>
     ensures { IsNumber decimal text.now result }
@@ -79,5 +71,5 @@ pub(crate) fn free_name(alloc: Global, taken: &[Name], x: &str) -> Result<Name, 
 {
     let marks = taken_numbers(alloc, taken, x)?;
     let before = set_before(marks.as_slice());
-    numbered(alloc, x, before + 1)
+    Name::numbered(alloc, x, before + 1)
 }

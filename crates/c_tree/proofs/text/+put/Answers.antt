@@ -1,9 +1,10 @@
 use Rattle.std.proofs.Common.{codes, string_bytes, ap, sym, ◌∙◌, ◌++◌}
 use Rattle.c_tree.specs.CTree.{cblock}
-use Rattle.c_tree.specs.CText.{line, block_text}
+use Rattle.c_tree.specs.CText.{block_text}
 use Rattle.c_tree.proofs.Appends.{three}
 use Rattle.c_tree.proofs.Blocks.{or_else_full}
 use Rattle.c_tree.proofs.text.+put.Goals as goal
+use Rattle.text_show.specs.Layout.{line}
 
 pub put_other-returns : goal.put_other-returns
 put_other-returns t c =

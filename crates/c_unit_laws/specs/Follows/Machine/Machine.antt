@@ -78,13 +78,9 @@ abbrev pub checked : ℤ → Outcome ℤ
 checked z = where_good (fits64 z) (Done z)
 
 abbrev pub number_under : (Name → ℤ) → Name → Option Thing → Outcome ℤ
-number_under fields x None = Fault
 number_under fields x (Some (IsNumber n)) = Done n
 number_under fields x (Some IsField) = Done (fields x)
-number_under fields x (Some IsFunction) = Fault
-number_under fields x (Some (IsArray p)) = Fault
-number_under fields x (Some (IsVectors p lanes)) = Fault
-number_under fields x (Some (IsWindow p strides)) = Fault
+number_under fields x _ = Fault
 
 -- that of the number k; a fault where there are not so many
 abbrev pub stride_in : List ℤ → ℕ → Outcome ℤ
@@ -93,13 +89,8 @@ stride_in (t ∷ ts) zero = Done t
 stride_in (t ∷ ts) (suc k) = stride_in ts k
 
 abbrev pub stride_under : Option Thing → ℕ → Outcome ℤ
-stride_under None k = Fault
-stride_under (Some (IsNumber n)) k = Fault
-stride_under (Some IsField) k = Fault
-stride_under (Some IsFunction) k = Fault
-stride_under (Some (IsArray p)) k = Fault
-stride_under (Some (IsVectors p lanes)) k = Fault
 stride_under (Some (IsWindow p strides)) k = stride_in strides k
+stride_under _ k = Fault
 
 -- both sides, and then an operation whose result must fit
 abbrev pub on_both : (ℤ → ℤ → ℤ) → Outcome ℤ → Outcome ℤ → Outcome ℤ
@@ -163,22 +154,12 @@ inside s p = where_good (in_object (s.objects p.object) p.offset) (Done p)
 
 -- a cell of an array, a cell under a window, and the first cell of a vector
 abbrev pub from_array : Option Thing → ℤ → Outcome Pointer
-from_array None k = Fault
-from_array (Some (IsNumber n)) k = Fault
-from_array (Some IsField) k = Fault
-from_array (Some IsFunction) k = Fault
 from_array (Some (IsArray p)) k = Done (moved p k)
-from_array (Some (IsVectors p lanes)) k = Fault
-from_array (Some (IsWindow p strides)) k = Fault
+from_array _ k = Fault
 
 abbrev pub from_window : Option Thing → ℤ → Outcome Pointer
-from_window None k = Fault
-from_window (Some (IsNumber n)) k = Fault
-from_window (Some IsField) k = Fault
-from_window (Some IsFunction) k = Fault
-from_window (Some (IsArray p)) k = Fault
-from_window (Some (IsVectors p lanes)) k = Fault
 from_window (Some (IsWindow p strides)) k = Done (moved p k)
+from_window _ k = Fault
 
 abbrev pub from_elements : Option Thing → ℤ → Outcome Pointer
 from_elements (Some (IsVectors p lanes)) k = Done (moved p (k *ℤ pos lanes))

@@ -3,7 +3,7 @@ use Rattle.text_expressions.specs.Expression.{parens}
 use Rattle.text_expressions.specs.Views.{tree_of}
 use Rattle.rules_names.specs.Faults.{fault}
 use Rattle.rules_names.specs.declared.error.TypeKind.TheVariants.{KindMismatch}
-use Rattle.rules_names.specs.Tests.{reads}
+use Rattle.exo_modes.specs.Reads.{reads}
 use Rattle.rules_names.specs.ExpressionRules.{is_arithmetic, joins_conditions, condition_faults, may_be_condition}
 use Rattle.rules_names.proofs.Seen.{seen_truth, seen_parens, sides}
 use Rattle.rules_names.proofs.Wide.{wide, wide_name, wide_field, wide_parens, wide_binary}

@@ -4,7 +4,7 @@ use Rattle.text_expressions.specs.Views.{tree_of}
 use Rattle.text_lexer.specs.declared.token.Literal.TheVariants.{Value}
 use Rattle.rules_names.specs.Faults.{fault}
 use Rattle.rules_names.specs.declared.error.TypeKind.TheVariants.{KindMismatch}
-use Rattle.rules_names.specs.Tests.{reads}
+use Rattle.exo_modes.specs.Reads.{reads}
 use Rattle.rules_names.specs.ExpressionRules.{is_divisor, unknown_first, control_faults, may_be_control}
 use Rattle.rules_names.proofs.Seen.{seen_int, seen_negative, seen_parens, sides}
 use Rattle.rules_names.proofs.Wide.{wide, wide_name, wide_field, wide_stride, wide_negative, wide_parens, wide_binary}

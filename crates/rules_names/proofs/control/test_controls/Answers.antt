@@ -1,7 +1,7 @@
 use Rattle.std.proofs.Common.{sym, ap, ◌∙◌, arith, map}
 use Rattle.text_expressions.specs.Views.{tree_of}
 use Rattle.rules_names.specs.Faults.{charged}
-use Rattle.rules_names.specs.Tests.{reads}
+use Rattle.exo_modes.specs.Reads.{reads}
 use Rattle.rules_names.specs.ExpressionRules.{controls_faults}
 use Rattle.rules_names.proofs.Rests.{rest_width, closed_some, closed_none, rest_none, empty_rest}
 use Rattle.rules_names.proofs.Controls.{controls_next, gone_first, gone_next, gone_all, no_controls}

@@ -1,6 +1,6 @@
 use Rattle.std.proofs.Common.{◌≡◌, ◌+◌, map, drop}
 use Rattle.text_expressions.specs.Views.{tree_of}
-use Rattle.rules_names.specs.Tests.{reads}
+use Rattle.exo_modes.specs.Reads.{reads}
 use Rattle.rules_names.specs.ExpressionRules.{commas_width, closed_width, controls_faults}
 use Rattle.rules_names.proofs.Controls.{Gone}
 use Rattle.rules_names.proofs.control.test_controls.Given as goal

@@ -1,7 +1,7 @@
 use Rattle.std.proofs.Common.{◌≡◌, ◌&&◌, true, false, length, take, drop, ap, sym, ◌∙◌, arith}
 use Rattle.exo_meaning.specs.Units.{is_text, data_ending}
-use Rattle.exo_types.proofs.Holes.{text_parts}
-use Rattle.exo_types.proofs.template.is_data_of.Goals as goal
+use Rattle.exo_modes.proofs.Endings.{text_parts}
+use Rattle.exo_modes.proofs.texts.is_data_of.Goals as goal
 
 pub returns-then-is_same : goal.returns-then-is_same
 returns-then-is_same c =
