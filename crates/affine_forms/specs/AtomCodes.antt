@@ -109,4 +109,6 @@ abbrev mutual
   nodes_in (term c a ts) = 1 + (nodes a + nodes_in ts)
 
 abbrev pub linear_code : Coded Linear
-linear_code = code_by (ℤ × Terms) (coded× coded_ℤ terms_code) (λ l. (l.constant, l.terms)) (λ p. record { constant = p.0; terms = p.1 }) (λ _. refl)
+linear_code =
+    code_by (ℤ × Terms) (coded× coded_ℤ terms_code) (λ l. (l.constant, l.terms))
+    (λ p. record { constant = p.0; terms = p.1 }) (λ _. refl)

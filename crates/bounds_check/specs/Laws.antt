@@ -18,4 +18,8 @@ may_be_owed p c = claim_keeps_rules c.claim && is_place c.place p
 
 -- so has each claim of a well-formed procedure
 abbrev pub ClaimsMayBeOwed : Type 0
-ClaimsMayBeOwed = (u : Program) (k : ℕ) (p : Procedure) → IsUnit u → slice_get u.procedures k ≡ Some p → list_all (may_be_owed p) (claims_of u p) ≡ true
+ClaimsMayBeOwed =
+    (u : Program) (k : ℕ) (p : Procedure)
+    → IsUnit u
+    → slice_get u.procedures k ≡ Some p
+    → list_all (may_be_owed p) (claims_of u p) ≡ true

@@ -7,7 +7,8 @@ use Rattle.affine_systems.specs.declared.obligation.Obligation.{Obligation}
 use Rattle.exo_tree.specs.Places.{Path}
 use Rattle.check_claims.specs.Claim.{Placed}
 use Rattle.check_claims.specs.Claims.{claims_there}
-use Rattle.bounds_check.specs.Obligations.{Fault, Wide, ManyCases, LargeSystem, ManyObligations, owed_for_all, obligations_of, first_fault, list_fault}
+use Rattle.bounds_check.specs.Obligations.{Fault, Wide, ManyCases, LargeSystem, ManyObligations}
+use Rattle.bounds_check.specs.Obligations.{owed_for_all, obligations_of, first_fault, list_fault}
 use Rattle.bounds_check.specs.declared.error.CheckError.{CheckError}
 use Rattle.bounds_check.specs.declared.error.CheckError.TheVariants.{TooManyObligations, Form, Memory}
 

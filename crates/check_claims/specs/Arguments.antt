@@ -2,7 +2,9 @@
 -- parameter is that of the dimension of the buffer that is passed.
 use Rattle.std.specs.Prelude.{ℕ, zero, suc, ◌-◌, ◌==◌, if◌then◌else◌, List, [], ◌∷◌, take, Option, Some, None}
 use Rattle.exo_tree.specs.Spans.{is_span}
-use Rattle.exo_tree.specs.Tree.{Control, Lit, Var, Field, StrideOf, Neg, Add, Sub, Mul, Div, Mod, Condition, True, False, Flag, FieldFlag, Lt, Le, Gt, Ge, Eq, And, Or, Coord, Argument, ControlArg, ConditionArg, Whole, Window, Param}
+use Rattle.exo_tree.specs.Tree.{Control, Lit, Var, Field, StrideOf, Neg, Add, Sub, Mul, Div, Mod}
+use Rattle.exo_tree.specs.Tree.{Condition, True, False, Flag, FieldFlag, Lt, Le, Gt, Ge, Eq, And}
+use Rattle.exo_tree.specs.Tree.{Or, Coord, Argument, ControlArg, ConditionArg, Whole, Window, Param}
 
 -- what is passed for a parameter
 abbrev pub passed_for : List Param → List Argument → ℕ → Option Argument

@@ -3,7 +3,12 @@
 use Rattle.std.specs.Prelude.{ℕ, suc, pos, ◌==◌, Bool, false, ◌&&◌, ◌||◌, if◌then◌else◌}
 use Rattle.std.specs.Prelude.{List, [], ◌∷◌, ◌++◌, map, flat_map, Option, Some, None, option_map}
 use Rattle.std.specs.Prelude.{slice_get}
-use Rattle.exo_tree.specs.Tree.{Kind, Size, Control, Lit, Condition, Le, Lt, Eq, Datum, Const, Read, Negated, Relu, Plus, Minus, Times, Select, Coord, At, Span, Argument, ControlArg, ConditionArg, Whole, Window, Statement, Assign, Reduce, Config, Pass, If, For, Alloc, View, Call, Block, end, next, ControlParam, TensorParam, WindowParam, Param, Procedure, Program}
+use Rattle.exo_tree.specs.Tree.{Kind, Size, Control, Lit, Condition, Le, Lt, Eq, Datum, Const, Read}
+use Rattle.exo_tree.specs.Tree.{Negated, Relu, Plus, Minus, Times, Select, Coord, At, Span}
+use Rattle.exo_tree.specs.Tree.{Argument, ControlArg, ConditionArg, Whole, Window, Statement}
+use Rattle.exo_tree.specs.Tree.{Assign, Reduce, Config, Pass, If, For, Alloc, View, Call, Block}
+use Rattle.exo_tree.specs.Tree.{end, next, ControlParam, TensorParam, WindowParam, Param, Procedure}
+use Rattle.exo_tree.specs.Tree.{Program}
 use Rattle.exo_tree.specs.Places.{Branch, Main, Else, Path, statement_at, path_below}
 use Rattle.exo_meaning.specs.Run.{kinds_of}
 use Rattle.exo_meaning.specs.Modes.{Writing, Reducing, unit_modes}

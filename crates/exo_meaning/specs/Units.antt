@@ -144,6 +144,7 @@ is_rank n = nat_lt n 9
 abbrev pub is_literal_number : ℤ → Bool
 is_literal_number n = int_le (pos 0) n && int_lt n (pos (2 ^ 31))
 
+-- a literal itself: `2 * 2` is none
 abbrev pub is_literal : Control → Bool
 is_literal (Lit n) = true
 is_literal _ = false
