@@ -1,5 +1,5 @@
 // Cases as their files have them.
-use case_texts::Text;
+use crate::text::Text;
 use std::alloc::{AllocError, Global};
 
 /// What a run has to leave.

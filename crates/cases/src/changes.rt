@@ -1,11 +1,12 @@
 // The same text with a change at each of its bytes in turn, and what comes of each.
 //
-// A row is the name of a change and then, for each byte from the first one of a line on, what comes of the change at that byte; of a cut
-// also for the end. Answers are separated by blanks and written as `case_texts::Answer` says; `.` is what is wanted of the case itself.
-// `12*S` is the answer `S` at twelve bytes in a row; `/` ends a line of the text, and counts for nothing.
+// A row is the name of a change and then, for each byte from the first one of a line on, what comes
+// of the change at that byte; of a cut also for the end. Answers are separated by blanks and
+// written as `change::Answer` says; `.` is what is wanted of the case itself. `12*S` is the answer
+// `S` at twelve bytes in a row; `/` ends a line of the text, and counts for nothing.
 use crate::case::{Case, Wanted};
+use crate::change::{Answer, Change, Refused, Run, Spot};
 use crate::run::has_left;
-use case_texts::{Answer, Change, Refused, Run, Spot};
 use std::alloc::{AllocError, Global};
 use std::thread::Threads;
 
@@ -75,7 +76,8 @@ impl<'a> Sweep<'a> {
         })
     }
 
-    /// Whether the program answers so where the text is changed at a byte; else the report says what it answered.
+    /// Whether the program answers so where the text is changed at a byte; else the report says
+    /// what it answered.
     fn answers<R: Threads + Sync + AllocGlobal>(
         &self,
         rt: &R,
@@ -92,7 +94,8 @@ impl<'a> Sweep<'a> {
         has_left(rt, self.case, Some(&text), &refused, report)
     }
 
-    /// Runs a change at so many bytes in a row, and adds to the report where it gives something else than the answer.
+    /// Runs a change at so many bytes in a row, and adds to the report where it gives something
+    /// else than the answer.
     fn run_bytes<R: Threads + Sync + AllocGlobal>(
         &self,
         rt: &R,
@@ -111,7 +114,8 @@ impl<'a> Sweep<'a> {
         Ok(spot)
     }
 
-    /// Runs a row from a line on, and adds to the report where the program does not answer as it says.
+    /// Runs a row from a line on, and adds to the report where the program does not answer as it
+    /// says.
     pub fn run_row<R: Threads + Sync + AllocGlobal>(
         &self,
         rt: &R,

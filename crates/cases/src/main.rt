@@ -1,26 +1,33 @@
-//! Runs the program on the cases of the files that `files` names, and prints where it answers otherwise than they say.
+//! Runs the program on the cases of the files that `files` names, and prints where it answers
+//! otherwise than they say.
 //!
-//! A file of cases begins with a free text. A case begins with a line `== NAME`, and its lines follow:
+//! A file of cases begins with a free text. A case begins with a line `== NAME`, and its lines
+//! follow:
 //! - `$ exoc check u.py`: the words of the command, the first of them the program's name;
 //! - `status 1`: the exit status that is wanted, if it is not 0;
-//! - `fail read 1`, `fail put 0`, `fail err 0`: the second reading of a file fails, the first put to
-//!   the standard output does, that to the standard error does;
+//! - `fail read 1`, `fail put 0`, `fail err 0`: the second reading of a file fails, the first put
+//!   to the standard output does, that to the standard error does;
 //! - `room 5`, `pieces 2`: the standard output takes five bytes, or at most two bytes a call;
 //! - `waits 0`: the first chunk of the first list of systems that has chunks waits until a second
 //!   one has begun; `enters 3`: so many chunks are decided in the run;
 //! - `--- u.py`: the lines from here to the next heading are a file of that name;
-//! - `--- out`, `--- out ends`, `--- err`: so are the output, its end, and the message that are wanted, nothing where there is no heading;
+//! - `--- out`, `--- out ends`, `--- err`: so are the output, its end, and the message that are
+//!   wanted, nothing where there is no heading;
 //! - `--- changes 4`: each line is a row of changes of the first file, from its line 4 on (module
 //!   changes); `--- err late`: the message that the word `late` of such a row stands for.
 //!
-//! In a file, an output or a message, `\n`, `\r`, `\t`, `\x80` and `\\` stand for a byte, a backslash at the end of a line for no line
-//! end, and `\<3 ab\>` for `ababab`. Each other byte stands for itself.
+//! In a file, an output or a message, `\n`, `\r`, `\t`, `\x80` and `\\` stand for a byte, a
+//! backslash at the end of a line for no line end, and `\<3 ab\>` for `ababab`. Each other byte
+//! stands for itself.
 #![tactic(auto)]
 
 mod case;
+mod change;
 mod changes;
 mod pieces;
 mod run;
+mod text;
+mod watching;
 
 use crate::case::Case;
 use crate::changes::Sweep;

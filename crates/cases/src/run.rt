@@ -1,7 +1,7 @@
 // Runs of the program on a case.
 use crate::case::{Case, ROOM, Wanted};
 use crate::pieces::Pieces;
-use case_gates::Watching;
+use crate::watching::Watching;
 use exo_cli::{MemFiles, MemSink, exoc};
 use std::alloc::{AllocError, Global};
 use std::thread::Threads;
@@ -67,7 +67,8 @@ fn is_file(heading: &str) -> bool {
         && !heading.starts_with("changes ")
 }
 
-/// Puts the files of a case into a list. Where bytes are given, the first file has these in place of its own.
+/// Puts the files of a case into a list. Where bytes are given, the first file has these in place
+/// of its own.
 fn put_files(
     alloc: Global,
     case: &Case,
@@ -127,8 +128,8 @@ fn run<R: Threads + Sync + AllocGlobal>(
     })
 }
 
-/// Runs the program on a case, and says whether it left what is wanted; else the report says what it left. Where bytes are given, the
-/// first file has these in place of its own.
+/// Runs the program on a case, and says whether it left what is wanted; else the report says what
+/// it left. Where bytes are given, the first file has these in place of its own.
 pub fn has_left<R: Threads + Sync + AllocGlobal>(
     rt: &R,
     case: &Case,

@@ -168,9 +168,10 @@ pub struct Refused {
     pub kind: &'static str,
 }
 
-/// What comes of a change, as a row writes it: `.` where nothing is refused; else the letter of a refusal, and its place. The place is
-/// that of the changed byte where none is written, `+` the byte behind it, `8` column 8 of its line, `9:8` column 8 of line 9.
-/// What another word means says who asks.
+/// What comes of a change, as a row writes it: `.` where nothing is refused; else the letter of a
+/// refusal, and its place. The place is that of the changed byte where none is written, `+` the
+/// byte behind it, `8` column 8 of its line, `9:8` column 8 of line 9. What another word means says
+/// who asks.
 #[derive(Clone, Copy)]
 pub struct Answer<'a> {
     text: &'a str,
