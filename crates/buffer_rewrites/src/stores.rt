@@ -127,9 +127,17 @@ impl StoreAt<'_> {
         Stmt::Assign(self.target, indices, right)
     }
 
+    /// The statement with another right side.
+    fn stored(&self, alloc: Global, right: DataExpr) -> Result<Stmt, AllocError>
+        ensures { IfOk result (λ s. statement s ≡ bound.stores (plain_storing self.now).reduces
+            (plain_storing self.now).target (plain_storing self.now).indices (datum right)) }
+    {
+        let indices = self.indices.duplicate(alloc)?;
+        Ok(self.with_right(indices, right))
+    }
+
     /// Behind some statements the store of the part in `x`, and the statement with `x` in its
     /// place.
-    #[tactic(auto, using(crate::proofs::Stored::stored_behind))]
     pub(crate) fn behind(
         &self,
         alloc: Global,
@@ -142,12 +150,20 @@ impl StoreAt<'_> {
             (plain_storing self.now).target (plain_storing self.now).indices (plain_parted
             parted.value).whole)))) }
     {
-        let indices = self.indices.duplicate(alloc)?;
         let Parted { whole, part } = Box::into_inner(parted);
-        let last = self.with_right(indices, whole);
-        let mut made = head;
-        made.push(Stmt::Assign(x, Indices::new(alloc), part))?;
-        made.push(last)?;
-        Ok(made)
+        let last = self.stored(alloc, whole)?;
+        two_behind(head, Stmt::Assign(x, Indices::new(alloc), part), last)
     }
+}
+
+/// A block, and two statements behind it.
+#[tactic(auto, using(crate::proofs::Stored::stored_behind))]
+fn two_behind(head: Block, first: Stmt, last: Stmt) -> Result<Block, AllocError>
+    ensures { IfOk result (λ b. block b
+        ≡ joined (block head) (next (statement first) (one (statement last)))) }
+{
+    let mut made = head;
+    made.push(first)?;
+    made.push(last)?;
+    Ok(made)
 }

@@ -26,7 +26,7 @@ use crate::forks::{ForkAt, fork_in};
 use config_state::steps::{have_common, may_write};
 use config_state::{FieldSet, FieldTable, add_condition};
 use cursor_forward::{Shifts, StepError};
-use exo_tree::{Arg, Block, Branch, Cond, Path, Step, Stmt, Unit};
+use exo_tree::{Block, Branch, Cond, Path, Step, Stmt, Unit};
 use std::alloc::{AllocError, Global};
 use step_driver::{Piece, Target};
 use step_targets::{
@@ -34,7 +34,7 @@ use step_targets::{
     statement_count,
 };
 use tree_edits::made::Fresh;
-use tree_uses::mentions::in_argument;
+use tree_uses::mentions::in_condition;
 
 /// What goes outside, and what it leaves.
 #[derive(Clone, Copy)]
@@ -54,12 +54,11 @@ const OTHER: Step = Step {
 };
 
 /// Whether a condition mentions the variable of a loop.
-fn mentions_variable(alloc: Global, l: &LoopAt<'_>, c: &Cond) -> Result<bool, AllocError>
-    ensures { IfOk result
-        (λ t. t ≡ unseen.in_condition (λ x. x == (plain_loop l.now).binder.id) (condition c.now)) }
+fn mentions_variable(l: &LoopAt<'_>, c: &Cond) -> bool
+    ensures { result
+        ≡ unseen.in_condition (λ x. x == (plain_loop l.now).binder.id) (condition c.now) }
 {
-    let test = Arg::Cond(c.duplicate(alloc)?);
-    Ok(in_argument(&Alone { id: l.binder.id }, &test))
+    in_condition(&Alone { id: l.binder.id }, c)
 }
 
 /// A condition, where it has no `else`.
@@ -112,55 +111,43 @@ fn in_fork(k: ForkAt<'_>) -> Option<LiftableAt<'_>>
 }
 
 /// What goes out of a loop.
-fn in_loop<'a>(alloc: Global, l: LoopAt<'a>) -> Result<Option<LiftableAt<'a>>, AllocError>
-    ensures { IfOk result (λ x. option_map plain_lifting x
+fn in_loop(l: LoopAt<'_>) -> Option<LiftableAt<'_>>
+    ensures { option_map plain_lifting result
         ≡ option_and_then (plain.fork_in_loop (plain_loop l.entry))
-        (alone_in (plain_loop l.entry).body)) }
+        (alone_in (plain_loop l.entry).body) }
 {
-    let Some(s) = only_statement(l.body) else {
-        return Ok(None);
-    };
-    let Some(k) = fork_in(s) else {
-        return Ok(None);
-    };
-    if mentions_variable(alloc, &l, k.test)? {
-        return Ok(None);
+    let k = fork_in(only_statement(l.body)?)?;
+    if mentions_variable(&l, k.test) {
+        return None;
     }
-    Ok(Some(LiftableAt::OutOfLoop(l, k)))
+    Some(LiftableAt::OutOfLoop(l, k))
 }
 
 /// What goes out of a statement.
-fn liftable_in(alloc: Global, s: &Stmt) -> Result<Option<LiftableAt<'_>>, AllocError>
-    ensures { IfOk result (λ x. option_map plain_lifting x ≡ plain.lifting_in (statement s.now)) }
+fn liftable_in(s: &Stmt) -> Option<LiftableAt<'_>>
+    ensures { option_map plain_lifting result ≡ plain.lifting_in (statement s.now) }
 {
     match s {
-        Stmt::If(test, main, other) => Ok(in_fork(ForkAt { test, main, other })),
-        Stmt::For(binder, lo, hi, body) => {
-            let l = LoopAt {
-                binder,
-                lo,
-                hi,
-                body,
-            };
-            in_loop(alloc, l)
-        }
-        _ => Ok(None),
+        Stmt::If(test, main, other) => in_fork(ForkAt { test, main, other }),
+        Stmt::For(binder, lo, hi, body) => in_loop(LoopAt {
+            binder,
+            lo,
+            hi,
+            body,
+        }),
+        _ => None,
     }
 }
 
 /// What goes out of the statement that is all of a piece; None exactly where nothing does, or it is
 /// not one statement.
-pub(crate) fn liftable_at<'a>(
-    alloc: Global,
-    on: &Target<'a>,
-    piece: &Piece,
-) -> Result<Option<LiftableAt<'a>>, AllocError>
-    ensures { IfOk result (λ x. option_map plain_lifting x
-        ≡ plain.lifting_of (spot_at (target on.now) (plain_piece piece.now)).opened.piece) }
+pub(crate) fn liftable_at<'a>(on: &Target<'a>, piece: &Piece) -> Option<LiftableAt<'a>>
+    ensures { option_map plain_lifting result
+        ≡ plain.lifting_of (spot_at (target on.now) (plain_piece piece.now)).opened.piece }
 {
     match on.statement(piece) {
-        None => Ok(None),
-        Some(s) => liftable_in(alloc, s),
+        None => None,
+        Some(s) => liftable_in(s),
     }
 }
 

@@ -34,7 +34,7 @@ impl Ruled for Lifting {
     }
 
     fn refusal(&self, alloc: Global, on: &Target<'_>, piece: &Piece) -> Result<(), StepError> {
-        match liftable_at(alloc, on, piece)? {
+        match liftable_at(on, piece) {
             None => Ok(()),
             Some(x) => x.unless_it_changes(alloc, on, piece),
         }
@@ -42,12 +42,12 @@ impl Ruled for Lifting {
 }
 
 impl OnPiece for Lifting {
-    fn piece(&self, alloc: Global, on: &Target<'_>, at: &Path) -> Result<Piece, StepError> {
+    fn piece(&self, _alloc: Global, on: &Target<'_>, at: &Path) -> Result<Piece, StepError> {
         let Some(outer) = round_first(at) else {
             return Err(StepError::WrongShape);
         };
         let piece = Piece::one(&outer);
-        match liftable_at(alloc, on, &piece)? {
+        match liftable_at(on, &piece) {
             None => Err(StepError::WrongShape),
             Some(_) => Ok(piece),
         }
@@ -61,7 +61,7 @@ impl OnPiece for Lifting {
         _how: Writing,
         fresh: &mut Fresh,
     ) -> Result<Block, StepError> {
-        match liftable_at(alloc, on, piece)? {
+        match liftable_at(on, piece) {
             None => Err(StepError::WrongShape),
             Some(x) => Ok(x.lifted(alloc, fresh)?),
         }
@@ -77,7 +77,7 @@ impl OnPiece for Lifting {
     }
 
     fn moved(&self, alloc: Global, on: &Target<'_>, piece: &Piece) -> Result<Shifts, AllocError> {
-        match liftable_at(alloc, on, piece)? {
+        match liftable_at(on, piece) {
             None => Ok(Shifts::new(alloc)),
             Some(x) => x.moved(alloc),
         }
