@@ -1,6 +1,7 @@
 -- Other ids for the names of a procedure.
 use Rattle.std.specs.Prelude.{◌≡◌, ℕ, List, option_map}
 use Rattle.exo_tree.specs.Tree.{Binder, Control, Condition, Datum, Coord, Argument, Statement, Block}
+use Rattle.exo_tree.specs.Tree.{ParamKind, ControlParam, TensorParam, WindowParam, Param}
 use Rattle.exo_tree.specs.Renaming as tree
 use Rattle.exo_meaning.specs.Scene.{Seen, Scene}
 use Rattle.exo_meaning.specs.State.{State, Place}
@@ -46,6 +47,14 @@ module _ (r : Renaming) where
 
   abbrev pub re_block : Block → Block
   re_block = tree.re_block r.to
+
+  abbrev pub re_kind : ParamKind → ParamKind
+  re_kind (ControlParam kind) = ControlParam kind
+  re_kind (TensorParam cell dims memory) = TensorParam cell (re_controls dims) memory
+  re_kind (WindowParam cell dims memory) = WindowParam cell (re_controls dims) memory
+
+  abbrev pub re_param : Param → Param
+  re_param p = record { binder = re_binder p.binder; kind = re_kind p.kind }
 
   abbrev pub re_seen : Seen → Seen
   re_seen seen = record { buffer = r.to seen.buffer; sides = seen.sides }

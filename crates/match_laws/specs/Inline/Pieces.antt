@@ -1,20 +1,9 @@
 -- What a rewrite says of the statements that it replaces.
-use Rattle.std.specs.Prelude.{ℕ, suc, Bool, true, List, [], ◌∷◌, Option, Some}
+use Rattle.std.specs.Prelude.{ℕ, suc, true, List, [], ◌∷◌, Some}
 use Rattle.exo_tree.specs.Tree.{Block, end, next}
 use Rattle.exo_tree.specs.Places.{Main, Path}
-
--- so many statements from a path on
-pub record Piece : Type 0 where
-  pub path : Path
-  pub count : ℕ
-
--- so many statements of the piece from one on, alone or with all below them, and where the first
--- of them goes; None: they are gone. Paths are counted from the piece
-pub record Shift : Type 0 where
-  pub from : Path
-  pub count : ℕ
-  pub whole : Bool
-  pub to : Option Path
+pub use Rattle.exo_tree.specs.Places.{Piece}
+pub use Rattle.cursor_forward.specs.Shifts.{Shift}
 
 -- statement n of the piece
 abbrev pub place_of : ℕ → Path
