@@ -5,7 +5,7 @@ use Rattle.std.proofs.lemmas.Bool.{cases_lt}
 use Rattle.std.specs.Ordering.{int_eq}
 use Rattle.affine_forms.specs.Atoms.{Atom, Terms, none, term, taken, same_atom, same_terms}
 use Rattle.affine_forms.specs.TermBounds.{count}
-use Rattle.affine_forms.specs.Tables.{Division, atom_of, Leaf, OfVariable, OfEntry, OfUnknown, OfStride, leaf_atom, Part, Whole, Earlier, Share, Row, no_division, part_atom, sum_of, division_of, with_rows, divisions, is_earlier, are_earlier, are_ordered, is_known, known_part, known_share, share_taken, known_sum, are_alike, known_row, with_lines}
+use Rattle.affine_forms.specs.Tables.{Division, atom_of, Leaf, OfVariable, OfEntry, OfUnknown, OfStride, leaf_atom, Part, Whole, Earlier, Share, QuotientRow, no_division, part_atom, sum_of, division_of, with_rows, divisions, is_earlier, are_earlier, are_ordered, is_known, known_part, known_share, share_taken, known_sum, are_alike, known_row, with_lines}
 use Rattle.affine_forms.proofs.Values.{and_parts, some_injective, none_some}
 use Rattle.affine_forms.proofs.Tables.{number_earlier, length_divisions, row_at, inside_at}
 
@@ -112,7 +112,7 @@ module _ (lines : List (List Bool)) (ds es : List Division) (knows : Knows lines
       go None e ih = refl
       go (Some us) e ih = ih us (e us refl)
 
-  known_row_is : (r s : Row) → are_earlier (length ds) r.terms ≡ true → are_earlier (length es) s.terms ≡ true → known_row lines r s ≡ same_atom (atom_of (division_of ds r)) (atom_of (division_of es s))
+  known_row_is : (r s : QuotientRow) → are_earlier (length ds) r.terms ≡ true → are_earlier (length es) s.terms ≡ true → known_row lines r s ≡ same_atom (atom_of (division_of ds r)) (atom_of (division_of es s))
   known_row_is r s h k =
       left_out (int_eq r.constant s.constant && int_eq r.by s.by) (length r.terms == length s.terms) (known_sum lines r.terms s.terms) lengths
       ∙ ap (λ b. (int_eq r.constant s.constant && int_eq r.by s.by) && b) sums
@@ -124,7 +124,7 @@ module _ (lines : List (List Bool)) (ds es : List Division) (knows : Knows lines
       lengths e = eq-eqb (length r.terms) (length s.terms) (sym (count_sum ds r.terms) ∙ same_counts (sum_of ds r.terms) (sum_of es s.terms) (sym sums ∙ e) ∙ count_sum es s.terms)
 
 -- rows that are not alike are not equal
-pub alike_from : (ds es : List Division) (r s : Row) → are_alike r s ≡ false → false ≡ same_atom (atom_of (division_of ds r)) (atom_of (division_of es s))
+pub alike_from : (ds es : List Division) (r s : QuotientRow) → are_alike r s ≡ false → false ≡ same_atom (atom_of (division_of ds r)) (atom_of (division_of es s))
 alike_from ds es r s e = go (int_eq r.constant s.constant && int_eq r.by s.by) (length r.terms == length s.terms) (same_terms (sum_of ds r.terms) (sum_of es s.terms)) lengths e
   where
     lengths : same_terms (sum_of ds r.terms) (sum_of es s.terms) ≡ true → (length r.terms == length s.terms) ≡ true
@@ -137,8 +137,8 @@ alike_from ds es r s e = go (int_eq r.constant s.constant && int_eq r.by s.by) (
 
 -- ---- all rows
 
-module _ (ss : List Row) (ordered : are_ordered 0 ss ≡ true) where
-  knows_push : (lines : List (List Bool)) (ds : List Division) (r : Row) → length lines ≡ length ds → Knows lines ds (divisions ss) → are_earlier (length ds) r.terms ≡ true → Knows (lines ++ map (known_row lines r) ss ∷ []) (ds ++ division_of ds r ∷ []) (divisions ss)
+module _ (ss : List QuotientRow) (ordered : are_ordered 0 ss ≡ true) where
+  knows_push : (lines : List (List Bool)) (ds : List Division) (r : QuotientRow) → length lines ≡ length ds → Knows lines ds (divisions ss) → are_earlier (length ds) r.terms ≡ true → Knows (lines ++ map (known_row lines r) ss ∷ []) (ds ++ division_of ds r ∷ []) (divisions ss)
   knows_push lines ds r n knows e = λ i j h k. at i j (length_push ds (division_of ds r)) h k (cases_lt i (length ds))
     where
       at : (i j : ℕ) → length (ds ++ division_of ds r ∷ []) ≡ length ds + 1 → i < length (ds ++ division_of ds r ∷ []) → j < length (divisions ss) → (i < length ds) ⊎ (length ds ≤ i) → is_known (lines ++ map (known_row lines r) ss ∷ []) i j ≡ same_atom (atom_of (get_or (ds ++ division_of ds r ∷ []) i no_division)) (atom_of (get_or (divisions ss) j no_division))
@@ -156,7 +156,7 @@ module _ (ss : List Row) (ordered : are_ordered 0 ss ≡ true) where
           ∙ known_row_is lines ds (divisions ss) knows r (get_or ss j r) e (inside_at ss j r ordered inside)
           ∙ ap₂ (λ d f. same_atom (atom_of d) (atom_of f)) (sym (get_or_push ds (division_of ds r) no_division i last)) (sym (row_at ss j r ordered inside))
 
-  knows_all : (rs : List Row) (lines : List (List Bool)) (ds : List Division) → length lines ≡ length ds → Knows lines ds (divisions ss) → are_ordered (length ds) rs ≡ true → Knows (with_lines lines rs ss) (with_rows ds rs) (divisions ss)
+  knows_all : (rs : List QuotientRow) (lines : List (List Bool)) (ds : List Division) → length lines ≡ length ds → Knows lines ds (divisions ss) → are_ordered (length ds) rs ≡ true → Knows (with_lines lines rs ss) (with_rows ds rs) (divisions ss)
   knows_all [] lines ds n knows o = knows
   knows_all (r ∷ rs) lines ds n knows o =
       let p = and_parts (are_earlier (length ds) r.terms) (are_ordered (suc (length ds)) rs) o in
@@ -166,5 +166,5 @@ module _ (ss : List Row) (ordered : are_ordered 0 ss ≡ true) where
       let same : length (lines ++ map (known_row lines r) ss ∷ []) ≡ length (ds ++ division_of ds r ∷ []) = omega (arith, one, more, n) in
       knows_all rs (lines ++ map (known_row lines r) ss ∷ []) (ds ++ division_of ds r ∷ []) same (knows_push lines ds r n knows p.0) (subst (λ m. are_ordered m rs ≡ true) longer p.1)
 
-  pub known_is : (rs : List Row) → are_ordered 0 rs ≡ true → Knows (with_lines [] rs ss) (divisions rs) (divisions ss)
+  pub known_is : (rs : List QuotientRow) → are_ordered 0 rs ≡ true → Knows (with_lines [] rs ss) (divisions rs) (divisions ss)
   known_is rs o = knows_all rs [] [] refl (λ i j h k. absurd (omega arith)) o

@@ -9,7 +9,7 @@ use Rattle.affine_forms.specs.TermBounds.{is_kept_atom, are_kept, joined_terms}
 use Rattle.affine_forms.specs.PlainAtoms.{plain_atom, plain_terms}
 use Rattle.affine_forms.specs.PlainTables.{plain_part, plain_share, plain_shares, plain_row, plain_rows}
 use Rattle.affine_forms.specs.declared.atom.Weighed.{Weighed}
-use Rattle.affine_forms.specs.declared.row.Row.{Row}
+use Rattle.affine_forms.specs.declared.row.QuotientRow.{QuotientRow}
 use Rattle.affine_forms.specs.declared.row.Share.{Share}
 use Rattle.affine_forms.proofs.Values.{and_parts}
 use Rattle.affine_forms.proofs.TermLists.{plain_append, joined_push, joined_none}
@@ -19,43 +19,43 @@ use Rattle.affine_forms.proofs.RowLists.{table_length, row_value, row_earlier, p
 
 -- ---- one row
 
-pub put_ordered : (rows : List Row) (ds : List Division) (x : Row) → divisions (plain_rows rows) ≡ ds → are_ordered 0 (plain_rows rows) ≡ true → are_earlier (length ds) (plain_row x).terms ≡ true → are_ordered 0 (plain_rows (rows ++ x ∷ [])) ≡ true
+pub put_ordered : (rows : List QuotientRow) (ds : List Division) (x : QuotientRow) → divisions (plain_rows rows) ≡ ds → are_ordered 0 (plain_rows rows) ≡ true → are_earlier (length ds) (plain_row x).terms ≡ true → are_ordered 0 (plain_rows (rows ++ x ∷ [])) ≡ true
 put_ordered rows ds x v o h =
     ap (are_ordered 0) (map_push plain_row rows x)
     ∙ ordered_push (plain_rows rows) (plain_row x) o (ap (λ es. are_earlier (length es) (plain_row x).terms) v ∙ h)
 
-pub put_kept : (rows : List Row) (ds : List Division) (x : Row) → divisions (plain_rows rows) ≡ ds → are_all_kept (divisions (plain_rows rows)) ≡ true → is_kept_atom (atom_of (division_of ds (plain_row x))) ≡ true → are_all_kept (divisions (plain_rows (rows ++ x ∷ []))) ≡ true
+pub put_kept : (rows : List QuotientRow) (ds : List Division) (x : QuotientRow) → divisions (plain_rows rows) ≡ ds → are_all_kept (divisions (plain_rows rows)) ≡ true → is_kept_atom (atom_of (division_of ds (plain_row x))) ≡ true → are_all_kept (divisions (plain_rows (rows ++ x ∷ []))) ≡ true
 put_kept rows ds x v k h =
     ap (λ rs. are_all_kept (divisions rs)) (map_push plain_row rows x)
     ∙ kept_push (plain_rows rows) (plain_row x) k (ap (λ es. is_kept_atom (atom_of (division_of es (plain_row x)))) v ∙ h)
 
-put_last : (rows : List Row) (ds : List Division) (x : Row) → divisions (plain_rows rows) ≡ ds → divisions (plain_rows (rows ++ x ∷ [])) ≡ ds ++ division_of ds (plain_row x) ∷ []
+put_last : (rows : List QuotientRow) (ds : List Division) (x : QuotientRow) → divisions (plain_rows rows) ≡ ds → divisions (plain_rows (rows ++ x ∷ [])) ≡ ds ++ division_of ds (plain_row x) ∷ []
 put_last rows ds x v =
     ap divisions (map_push plain_row rows x)
     ∙ divisions_push (plain_rows rows) (plain_row x)
     ∙ ap (λ es. es ++ division_of es (plain_row x) ∷ []) v
 
-pub put_holds : (rows : List Row) (ds : List Division) (x : Row) (k : ℕ) → divisions (plain_rows rows) ≡ ds → length rows ≡ k → Holds (divisions (plain_rows (rows ++ x ∷ []))) k (division_of ds (plain_row x))
+pub put_holds : (rows : List QuotientRow) (ds : List Division) (x : QuotientRow) (k : ℕ) → divisions (plain_rows rows) ≡ ds → length rows ≡ k → Holds (divisions (plain_rows (rows ++ x ∷ []))) k (division_of ds (plain_row x))
 put_holds rows ds x k v e = subst (λ es. Holds es k (division_of ds (plain_row x))) (sym (put_last rows ds x v)) (pushed_holds ds (division_of ds (plain_row x)) k (table_length rows ds v ∙ e))
 
-pub put_extends : (rows : List Row) (ds : List Division) (x : Row) → divisions (plain_rows rows) ≡ ds → Extends ds (divisions (plain_rows (rows ++ x ∷ [])))
+pub put_extends : (rows : List QuotientRow) (ds : List Division) (x : QuotientRow) → divisions (plain_rows rows) ≡ ds → Extends ds (divisions (plain_rows (rows ++ x ∷ [])))
 put_extends rows ds x v = subst (λ es. Extends ds es) (sym (put_last rows ds x v)) (pushed_extends ds (division_of ds (plain_row x)))
 
-pub put_found : (rows : List Row) (ds : List Division) (x : Row) (k : ℕ) → divisions (plain_rows rows) ≡ ds → are_ordered 0 (plain_rows rows) ≡ true → is_row_at (plain_row x) (plain_rows rows) k ≡ true → Holds ds k (division_of ds (plain_row x))
+pub put_found : (rows : List QuotientRow) (ds : List Division) (x : QuotientRow) (k : ℕ) → divisions (plain_rows rows) ≡ ds → are_ordered 0 (plain_rows rows) ≡ true → is_row_at (plain_row x) (plain_rows rows) k ≡ true → Holds ds k (division_of ds (plain_row x))
 put_found rows ds x k v o h = subst (λ es. Holds es k (division_of es (plain_row x))) v (found_holds (plain_row x) (plain_rows rows) k o h)
 
 -- ---- a row of another table
 
-abbrev pub moved_row : List ℕ → Row → plain.Row
+abbrev pub moved_row : List ℕ → QuotientRow → plain.QuotientRow
 moved_row numbers x = record { constant = x.constant; terms = map (moved_share numbers) (plain_shares x.terms.items); by = x.by }
 
-pub moved_with : (ns ms : List ℕ) (x : Row) (r : plain.Row) → ns ≡ ms → r ≡ moved_row ns x → r ≡ moved_row ms x
+pub moved_with : (ns ms : List ℕ) (x : QuotientRow) (r : plain.QuotientRow) → ns ≡ ms → r ≡ moved_row ns x → r ≡ moved_row ms x
 moved_with ns ms x r e m = m ∙ ap (λ ks. moved_row ks x) e
 
-abbrev made : Row → Terms → Division
+abbrev made : QuotientRow → Terms → Division
 made x ts = record { constant = x.constant; terms = ts; by = x.by }
 
-module _ (numbers : List ℕ) (ds es : List Division) (items rows : List Row) (i : ℕ) (x : Row) (moved : plain.Row) (same : items ≡ rows) (view : divisions (plain_rows rows) ≡ es) (ordered : are_ordered 0 (plain_rows rows) ≡ true) (inside : i < length items) (is : x ≡ get_or items i x) (count : length numbers ≡ i) (follows : Follows numbers ds es) where
+module _ (numbers : List ℕ) (ds es : List Division) (items rows : List QuotientRow) (i : ℕ) (x : QuotientRow) (moved : plain.QuotientRow) (same : items ≡ rows) (view : divisions (plain_rows rows) ≡ es) (ordered : are_ordered 0 (plain_rows rows) ≡ true) (inside : i < length items) (is : x ≡ get_or items i x) (count : length numbers ≡ i) (follows : Follows numbers ds es) where
   at_rows : x ≡ get_or rows i x
   at_rows = is ∙ ap (λ xs. get_or xs i x) same
 
@@ -135,26 +135,26 @@ sum_done ds ss i done whole h inv =
 
 -- ---- two quotients
 
-pub tables_alike : (xs ys : List Row) (ds es : List Division) (i j : ℕ) (x y : Row) → divisions (plain_rows xs) ≡ ds → divisions (plain_rows ys) ≡ es → are_ordered 0 (plain_rows xs) ≡ true → are_ordered 0 (plain_rows ys) ≡ true → i < length ds → j < length es → x ≡ get_or xs i x → y ≡ get_or ys j y → are_alike (plain_row x) (plain_row y) ≡ false → false ≡ same_atom (atom_of (get_or ds i no_division)) (atom_of (get_or es j no_division))
+pub tables_alike : (xs ys : List QuotientRow) (ds es : List Division) (i j : ℕ) (x y : QuotientRow) → divisions (plain_rows xs) ≡ ds → divisions (plain_rows ys) ≡ es → are_ordered 0 (plain_rows xs) ≡ true → are_ordered 0 (plain_rows ys) ≡ true → i < length ds → j < length es → x ≡ get_or xs i x → y ≡ get_or ys j y → are_alike (plain_row x) (plain_row y) ≡ false → false ≡ same_atom (atom_of (get_or ds i no_division)) (atom_of (get_or es j no_division))
 tables_alike xs ys ds es i j x y v w o p h k is at e =
     alike_from ds es (plain_row x) (plain_row y) e
     ∙ ap₂ (λ d f. same_atom (atom_of d) (atom_of f)) (row_value xs ds i x v o h is) (row_value ys es j y w p k at)
 
 -- ---- the first rows of a table
 
-ordered_first : (n : ℕ) (rs ss : List plain.Row) → are_ordered n (rs ++ ss) ≡ true → are_ordered n rs ≡ true
+ordered_first : (n : ℕ) (rs ss : List plain.QuotientRow) → are_ordered n (rs ++ ss) ≡ true → are_ordered n rs ≡ true
 ordered_first n [] ss o = refl
 ordered_first n (r ∷ rs) ss o =
     let p = and_parts (are_earlier n r.terms) (are_ordered (suc n) (rs ++ ss)) o in
     ap₂ (λ x y. x && y) p.0 (ordered_first (suc n) rs ss p.1)
 
-rows_split : (rows : List Row) (n : ℕ) → plain_rows (take n rows) ++ plain_rows (drop n rows) ≡ plain_rows rows
+rows_split : (rows : List QuotientRow) (n : ℕ) → plain_rows (take n rows) ++ plain_rows (drop n rows) ≡ plain_rows rows
 rows_split rows n = sym (map-append plain_row (take n rows) (drop n rows)) ∙ ap plain_rows (take-append-drop n rows)
 
-first_ordered : (rows : List Row) (n : ℕ) → are_ordered 0 (plain_rows rows) ≡ true → are_ordered 0 (plain_rows (take n rows)) ≡ true
+first_ordered : (rows : List QuotientRow) (n : ℕ) → are_ordered 0 (plain_rows rows) ≡ true → are_ordered 0 (plain_rows (take n rows)) ≡ true
 first_ordered rows n o = ordered_first 0 (plain_rows (take n rows)) (plain_rows (drop n rows)) (ap (are_ordered 0) (rows_split rows n) ∙ o)
 
-first_length : (rows : List Row) (ds : List Division) (k : ℕ) → divisions (plain_rows rows) ≡ ds → k < length ds → k < length (divisions (plain_rows (take (k + 1) rows)))
+first_length : (rows : List QuotientRow) (ds : List Division) (k : ℕ) → divisions (plain_rows rows) ≡ ds → k < length ds → k < length (divisions (plain_rows (take (k + 1) rows)))
 first_length rows ds k v h =
     let n = table_length rows ds v in
     let some = table_length (take (k + 1) rows) (divisions (plain_rows (take (k + 1) rows))) refl in
@@ -162,12 +162,12 @@ first_length rows ds k v h =
     let most = length-take-le (k + 1) rows within in
     omega (arith, some, most)
 
-first_division : (rows : List Row) (ds : List Division) (k : ℕ) → divisions (plain_rows rows) ≡ ds → k < length ds → get_or (divisions (plain_rows (take (k + 1) rows))) k no_division ≡ get_or ds k no_division
+first_division : (rows : List QuotientRow) (ds : List Division) (k : ℕ) → divisions (plain_rows rows) ≡ ds → k < length ds → get_or (divisions (plain_rows (take (k + 1) rows))) k no_division ≡ get_or ds k no_division
 first_division rows ds k v h =
     sym (keeps (divisions (plain_rows (take (k + 1) rows))) (plain_rows (drop (k + 1) rows)) k (first_length rows ds k v h))
     ∙ ap (λ es. get_or es k no_division) (sym (with_append [] (plain_rows (take (k + 1) rows)) (plain_rows (drop (k + 1) rows))) ∙ ap divisions (rows_split rows (k + 1)) ∙ v)
 
-pub tables_known : (xs ys : List Row) (ds es : List Division) (i j : ℕ) → divisions (plain_rows xs) ≡ ds → divisions (plain_rows ys) ≡ es → are_ordered 0 (plain_rows xs) ≡ true → are_ordered 0 (plain_rows ys) ≡ true → i < length ds → j < length es → is_known (with_lines [] (plain_rows (take (i + 1) xs)) (plain_rows (take (j + 1) ys))) i j ≡ same_atom (atom_of (get_or ds i no_division)) (atom_of (get_or es j no_division))
+pub tables_known : (xs ys : List QuotientRow) (ds es : List Division) (i j : ℕ) → divisions (plain_rows xs) ≡ ds → divisions (plain_rows ys) ≡ es → are_ordered 0 (plain_rows xs) ≡ true → are_ordered 0 (plain_rows ys) ≡ true → i < length ds → j < length es → is_known (with_lines [] (plain_rows (take (i + 1) xs)) (plain_rows (take (j + 1) ys))) i j ≡ same_atom (atom_of (get_or ds i no_division)) (atom_of (get_or es j no_division))
 tables_known xs ys ds es i j v w o p h k =
     known_is (plain_rows (take (j + 1) ys)) (first_ordered ys (j + 1) p) (plain_rows (take (i + 1) xs)) (first_ordered xs (i + 1) o) i j (first_length xs ds i v h) (first_length ys es j w k)
     ∙ ap₂ (λ d e. same_atom (atom_of d) (atom_of e)) (first_division xs ds i v h) (first_division ys es j w k)

@@ -7,7 +7,7 @@ use Rattle.affine_forms.specs.Tables.{Division, no_division, sum_of, division_of
 use Rattle.affine_forms.specs.TermBounds.{are_kept, is_kept_atom}
 use Rattle.affine_forms.specs.PlainTables.{plain_part, plain_share, plain_shares, plain_row, plain_rows}
 use Rattle.affine_forms.specs.declared.row.Share.{Share}
-use Rattle.affine_forms.specs.declared.row.Row.{Row}
+use Rattle.affine_forms.specs.declared.row.QuotientRow.{QuotientRow}
 use Rattle.affine_forms.proofs.Values.{and_parts}
 use Rattle.affine_forms.proofs.Tables.{length_divisions, row_at, inside_at, earlier_at, kept_get, kept_sum}
 
@@ -24,7 +24,7 @@ pub moved_all : (numbers : List ℕ) (ss : List Share) → map (λ s. moved_shar
 moved_all numbers [] = refl
 moved_all numbers (s ∷ ss) = ap (λ us. moved_share numbers (plain_share s) ∷ us) (moved_all numbers ss)
 
-pub known_all : (lines : List (List Bool)) (r : plain.Row) (rows : List Row) → map (λ s. known_row lines r (plain_row s)) rows ≡ map (known_row lines r) (plain_rows rows)
+pub known_all : (lines : List (List Bool)) (r : plain.QuotientRow) (rows : List QuotientRow) → map (λ s. known_row lines r (plain_row s)) rows ≡ map (known_row lines r) (plain_rows rows)
 known_all lines r [] = refl
 known_all lines r (s ∷ rows) = ap (λ bs. known_row lines r (plain_row s) ∷ bs) (known_all lines r rows)
 
@@ -113,52 +113,52 @@ sum_end lines ss i us h = ap (λ vs. known_sum lines (plain_shares vs) (plain_sh
 
 -- ---- rows by their places
 
-pub found_from : (r : plain.Row) (rows : List Row) (k : ℕ) (x : Row) → k < length rows → x ≡ get_or rows k x → is_row r (plain_row x) ≡ true → is_row_at r (plain_rows rows) k ≡ true
+pub found_from : (r : plain.QuotientRow) (rows : List QuotientRow) (k : ℕ) (x : QuotientRow) → k < length rows → x ≡ get_or rows k x → is_row r (plain_row x) ≡ true → is_row_at r (plain_rows rows) k ≡ true
 found_from r [] k x h is e = absurd (omega arith)
 found_from r (y ∷ rows) zero x h is e = ap (λ z. is_row r (plain_row z)) (sym is) ∙ e
 found_from r (y ∷ rows) (suc k) x h is e = let below : k < length rows = omega arith in found_from r rows k x below is e
 
-pub table_length : (rows : List Row) (ds : List Division) → divisions (plain_rows rows) ≡ ds → length ds ≡ length rows
+pub table_length : (rows : List QuotientRow) (ds : List Division) → divisions (plain_rows rows) ≡ ds → length ds ≡ length rows
 table_length rows ds v = ap length (sym v) ∙ length_divisions (plain_rows rows) ∙ length-map rows plain_row
 
-row_plain : (rows : List Row) (k : ℕ) (x : Row) → k < length rows → x ≡ get_or rows k x → get_or (plain_rows rows) k (plain_row x) ≡ plain_row x
+row_plain : (rows : List QuotientRow) (k : ℕ) (x : QuotientRow) → k < length rows → x ≡ get_or rows k x → get_or (plain_rows rows) k (plain_row x) ≡ plain_row x
 row_plain rows k x h is = get_or-map plain_row rows k x (plain_row x) h ∙ ap plain_row (sym is)
 
-inside_rows : (rows : List Row) (ds : List Division) (k : ℕ) → divisions (plain_rows rows) ≡ ds → k < length ds → k < length (plain_rows rows)
+inside_rows : (rows : List QuotientRow) (ds : List Division) (k : ℕ) → divisions (plain_rows rows) ≡ ds → k < length ds → k < length (plain_rows rows)
 inside_rows rows ds k v h =
     let n = ap length v in
     let m = length_divisions (plain_rows rows) in
     omega (arith, n, m, h)
 
-inside_raw : (rows : List Row) (ds : List Division) (k : ℕ) → divisions (plain_rows rows) ≡ ds → k < length ds → k < length rows
+inside_raw : (rows : List QuotientRow) (ds : List Division) (k : ℕ) → divisions (plain_rows rows) ≡ ds → k < length ds → k < length rows
 inside_raw rows ds k v h = let n = table_length rows ds v in omega (arith, n, h)
 
-pub row_value : (rows : List Row) (ds : List Division) (k : ℕ) (x : Row) → divisions (plain_rows rows) ≡ ds → are_ordered 0 (plain_rows rows) ≡ true → k < length ds → x ≡ get_or rows k x → division_of ds (plain_row x) ≡ get_or ds k no_division
+pub row_value : (rows : List QuotientRow) (ds : List Division) (k : ℕ) (x : QuotientRow) → divisions (plain_rows rows) ≡ ds → are_ordered 0 (plain_rows rows) ≡ true → k < length ds → x ≡ get_or rows k x → division_of ds (plain_row x) ≡ get_or ds k no_division
 row_value rows ds k x v o h is =
     subst (λ es. division_of es (plain_row x) ≡ get_or es k no_division) v (sym (row_at (plain_rows rows) k (plain_row x) o (inside_rows rows ds k v h) ∙ ap (division_of (divisions (plain_rows rows))) (row_plain rows k x (inside_raw rows ds k v h) is)))
 
-pub row_inside : (rows : List Row) (ds : List Division) (k : ℕ) (x : Row) → divisions (plain_rows rows) ≡ ds → are_ordered 0 (plain_rows rows) ≡ true → k < length ds → x ≡ get_or rows k x → are_earlier (length ds) (plain_shares x.terms.items) ≡ true
+pub row_inside : (rows : List QuotientRow) (ds : List Division) (k : ℕ) (x : QuotientRow) → divisions (plain_rows rows) ≡ ds → are_ordered 0 (plain_rows rows) ≡ true → k < length ds → x ≡ get_or rows k x → are_earlier (length ds) (plain_shares x.terms.items) ≡ true
 row_inside rows ds k x v o h is =
     subst (λ es. are_earlier (length es) (plain_shares x.terms.items) ≡ true) v (ap (λ r. are_earlier (length (divisions (plain_rows rows))) r.terms) (sym (row_plain rows k x (inside_raw rows ds k v h) is)) ∙ inside_at (plain_rows rows) k (plain_row x) o (inside_rows rows ds k v h))
 
 -- it names only rows before it
-pub row_earlier : (rows : List Row) (ds : List Division) (k : ℕ) (x : Row) → divisions (plain_rows rows) ≡ ds → are_ordered 0 (plain_rows rows) ≡ true → k < length rows → x ≡ get_or rows k x → are_earlier k (plain_shares x.terms.items) ≡ true
+pub row_earlier : (rows : List QuotientRow) (ds : List Division) (k : ℕ) (x : QuotientRow) → divisions (plain_rows rows) ≡ ds → are_ordered 0 (plain_rows rows) ≡ true → k < length rows → x ≡ get_or rows k x → are_earlier k (plain_shares x.terms.items) ≡ true
 row_earlier rows ds k x v o h is =
     let n = length-map rows plain_row in
     let inside : k < length (plain_rows rows) = omega (arith, n, h) in
     ap (λ r. are_earlier k r.terms) (sym (row_plain rows k x h is)) ∙ earlier_at (plain_rows rows) k (plain_row x) o inside
 
-pub row_kept : (rows : List Row) (ds : List Division) (k : ℕ) (x : Row) → divisions (plain_rows rows) ≡ ds → are_ordered 0 (plain_rows rows) ≡ true → are_all_kept (divisions (plain_rows rows)) ≡ true → k < length ds → x ≡ get_or rows k x → are_kept (sum_of ds (plain_shares x.terms.items)) ≡ true
+pub row_kept : (rows : List QuotientRow) (ds : List Division) (k : ℕ) (x : QuotientRow) → divisions (plain_rows rows) ≡ ds → are_ordered 0 (plain_rows rows) ≡ true → are_all_kept (divisions (plain_rows rows)) ≡ true → k < length ds → x ≡ get_or rows k x → are_kept (sum_of ds (plain_shares x.terms.items)) ≡ true
 row_kept rows ds k x v o kept h is =
     let all : are_all_kept ds ≡ true = ap are_all_kept (sym v) ∙ kept in
     kept_sum ds (plain_row x) all (ap (λ d. is_kept_atom (atom_of d)) (row_value rows ds k x v o h is) ∙ kept_get ds k all)
 
 -- ---- the lines of rows
 
-pub lines_step : (lines : List (List Bool)) (rows : List Row) (others : List plain.Row) (i : ℕ) (x : Row) (next : List Bool) → i < length rows → x ≡ get_or rows i x → next ≡ map (known_row lines (plain_row x)) others → with_lines (lines ++ next ∷ []) (plain_rows (drop (i + 1) rows)) others ≡ with_lines lines (plain_rows (drop i rows)) others
+pub lines_step : (lines : List (List Bool)) (rows : List QuotientRow) (others : List plain.QuotientRow) (i : ℕ) (x : QuotientRow) (next : List Bool) → i < length rows → x ≡ get_or rows i x → next ≡ map (known_row lines (plain_row x)) others → with_lines (lines ++ next ∷ []) (plain_rows (drop (i + 1) rows)) others ≡ with_lines lines (plain_rows (drop i rows)) others
 lines_step lines rows others i x next h is e =
     ap (λ line. with_lines (lines ++ line ∷ []) (plain_rows (drop (i + 1) rows)) others) e
     ∙ sym (ap (λ rs. with_lines lines rs others) (ap plain_rows (drop_more rows i x h) ∙ ap (λ y. plain_row y ∷ plain_rows (drop (i + 1) rows)) (sym is)))
 
-pub lines_end : (lines : List (List Bool)) (rows : List Row) (others : List plain.Row) (i : ℕ) → length rows ≤ i → with_lines lines (plain_rows (drop i rows)) others ≡ lines
+pub lines_end : (lines : List (List Bool)) (rows : List QuotientRow) (others : List plain.QuotientRow) (i : ℕ) → length rows ≤ i → with_lines lines (plain_rows (drop i rows)) others ≡ lines
 lines_end lines rows others i h = ap (λ rs. with_lines lines (plain_rows rs) others) (drop_all i rows h)

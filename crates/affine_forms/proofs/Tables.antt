@@ -9,7 +9,7 @@ use Rattle.affine_forms.specs.Atoms.{Atom, Variable, EntryField, UnknownField, O
 use Rattle.exo_tree.specs.Places.{same_path}
 use Rattle.affine_forms.specs.Forms.{is_within, is_short, are_short}
 use Rattle.affine_forms.specs.TermBounds.{is_kept_atom, are_kept, are_distinct, are_present}
-use Rattle.affine_forms.specs.Tables.{Division, atom_of, Leaf, OfVariable, OfEntry, OfUnknown, OfStride, leaf_atom, Part, Whole, Earlier, Share, Row, no_division, part_atom, sum_of, division_of, with_rows, divisions, is_earlier, are_earlier, are_ordered, are_all_kept, Holds, Extends, is_part, are_shares, is_row, is_row_at, moved_part, moved_share, Follows}
+use Rattle.affine_forms.specs.Tables.{Division, atom_of, Leaf, OfVariable, OfEntry, OfUnknown, OfStride, leaf_atom, Part, Whole, Earlier, Share, QuotientRow, no_division, part_atom, sum_of, division_of, with_rows, divisions, is_earlier, are_earlier, are_ordered, are_all_kept, Holds, Extends, is_part, are_shares, is_row, is_row_at, moved_part, moved_share, Follows}
 use Rattle.affine_forms.proofs.Values.{and_parts, int_eq_same, same_kind_is, same_path_is}
 use Rattle.affine_forms.proofs.TermWidths.{within_le, within_from_le}
 
@@ -21,18 +21,18 @@ true_lt j n h = grind (arith, nat_tests)
 
 -- ---- numbers of quotients
 
-length_with : (ds : List Division) (rs : List Row) → length (with_rows ds rs) ≡ length ds + length rs
+length_with : (ds : List Division) (rs : List QuotientRow) → length (with_rows ds rs) ≡ length ds + length rs
 length_with ds [] = omega arith
 length_with ds (r ∷ rs) =
     let more : length (with_rows ds (r ∷ rs)) ≡ length (ds ++ division_of ds r ∷ []) + length rs = length_with (ds ++ division_of ds r ∷ []) rs in
     let one = length_push ds (division_of ds r) in
     omega (arith, more, one)
 
-pub length_divisions : (rs : List Row) → length (divisions rs) ≡ length rs
+pub length_divisions : (rs : List QuotientRow) → length (divisions rs) ≡ length rs
 length_divisions rs = length_with [] rs ∙ zero-add (length rs)
 
 -- a quotient keeps its number
-pub keeps : (ds : List Division) (rs : List Row) (k : ℕ) → k < length ds → get_or (with_rows ds rs) k no_division ≡ get_or ds k no_division
+pub keeps : (ds : List Division) (rs : List QuotientRow) (k : ℕ) → k < length ds → get_or (with_rows ds rs) k no_division ≡ get_or ds k no_division
 keeps ds [] k h = refl
 keeps ds (r ∷ rs) k h =
     let one = length_push ds (division_of ds r) in
@@ -57,10 +57,10 @@ sum_agrees n ds es a (s ∷ ss) h =
 abbrev made : ℤ → ℤ → Terms → Division
 made n c ts = record { constant = n; terms = ts; by = c }
 
-abbrev with_terms : Row → Terms → Division
+abbrev with_terms : QuotientRow → Terms → Division
 with_terms r ts = made r.constant r.by ts
 
-pub division_agrees : (n : ℕ) (ds es : List Division) → Agree n ds es → (r : Row) → are_earlier n r.terms ≡ true → division_of ds r ≡ division_of es r
+pub division_agrees : (n : ℕ) (ds es : List Division) → Agree n ds es → (r : QuotientRow) → are_earlier n r.terms ≡ true → division_of ds r ≡ division_of es r
 division_agrees n ds es a r h = ap (with_terms r) (sum_agrees n ds es a r.terms h)
 
 pub earlier_more : (m n : ℕ) → m ≤ n → (ss : List Share) → are_earlier m ss ≡ true → are_earlier n ss ≡ true
@@ -75,7 +75,7 @@ earlier_more m n l (s ∷ ss) h =
 
 -- ---- the row of a number
 
-row_from : (ds : List Division) (rs : List Row) (k : ℕ) (e : Row) → are_ordered (length ds) rs ≡ true → k < length rs → get_or (with_rows ds rs) (length ds + k) no_division ≡ division_of (with_rows ds rs) (get_or rs k e)
+row_from : (ds : List Division) (rs : List QuotientRow) (k : ℕ) (e : QuotientRow) → are_ordered (length ds) rs ≡ true → k < length rs → get_or (with_rows ds rs) (length ds + k) no_division ≡ division_of (with_rows ds rs) (get_or rs k e)
 row_from ds [] k e o h = absurd (omega arith)
 row_from ds (r ∷ rs) zero e o h =
     let one = length_push ds (division_of ds r) in
@@ -92,10 +92,10 @@ row_from ds (r ∷ rs) (suc k) e o h =
     ap (λ i. get_or (with_rows ds (r ∷ rs)) i no_division) place
     ∙ row_from (ds ++ division_of ds r ∷ []) rs k e (subst (λ n. are_ordered n rs ≡ true) longer (and_parts (are_earlier (length ds) r.terms) (are_ordered (suc (length ds)) rs) o).1) below
 
-pub row_at : (rs : List Row) (k : ℕ) (e : Row) → are_ordered 0 rs ≡ true → k < length rs → get_or (divisions rs) k no_division ≡ division_of (divisions rs) (get_or rs k e)
+pub row_at : (rs : List QuotientRow) (k : ℕ) (e : QuotientRow) → are_ordered 0 rs ≡ true → k < length rs → get_or (divisions rs) k no_division ≡ division_of (divisions rs) (get_or rs k e)
 row_at rs k e o h = ap (λ i. get_or (divisions rs) i no_division) (sym (zero-add k)) ∙ row_from [] rs k e o h
 
-earlier_from : (n : ℕ) (rs : List Row) (k : ℕ) (e : Row) → are_ordered n rs ≡ true → k < length rs → are_earlier (n + k) (get_or rs k e).terms ≡ true
+earlier_from : (n : ℕ) (rs : List QuotientRow) (k : ℕ) (e : QuotientRow) → are_ordered n rs ≡ true → k < length rs → are_earlier (n + k) (get_or rs k e).terms ≡ true
 earlier_from n [] k e o h = absurd (omega arith)
 earlier_from n (r ∷ rs) zero e o h =
     let here : n ≡ n + 0 = omega arith in
@@ -106,10 +106,10 @@ earlier_from n (r ∷ rs) (suc k) e o h =
     subst (λ m. are_earlier m (get_or rs k e).terms ≡ true) place (earlier_from (suc n) rs k e (and_parts (are_earlier n r.terms) (are_ordered (suc n) rs) o).1 below)
 
 -- a row names only rows before it
-pub earlier_at : (rs : List Row) (k : ℕ) (e : Row) → are_ordered 0 rs ≡ true → k < length rs → are_earlier k (get_or rs k e).terms ≡ true
+pub earlier_at : (rs : List QuotientRow) (k : ℕ) (e : QuotientRow) → are_ordered 0 rs ≡ true → k < length rs → are_earlier k (get_or rs k e).terms ≡ true
 earlier_at rs k e o h = subst (λ m. are_earlier m (get_or rs k e).terms ≡ true) (zero-add k) (earlier_from 0 rs k e o h)
 
-pub inside_at : (rs : List Row) (k : ℕ) (e : Row) → are_ordered 0 rs ≡ true → k < length rs → are_earlier (length (divisions rs)) (get_or rs k e).terms ≡ true
+pub inside_at : (rs : List QuotientRow) (k : ℕ) (e : QuotientRow) → are_ordered 0 rs ≡ true → k < length rs → are_earlier (length (divisions rs)) (get_or rs k e).terms ≡ true
 inside_at rs k e o h =
     let all = length_divisions rs in
     let less : k ≤ length (divisions rs) = omega (arith, all) in
@@ -117,14 +117,14 @@ inside_at rs k e o h =
 
 -- ---- one more row
 
-pub with_append : (ds : List Division) (rs ss : List Row) → with_rows ds (rs ++ ss) ≡ with_rows (with_rows ds rs) ss
+pub with_append : (ds : List Division) (rs ss : List QuotientRow) → with_rows ds (rs ++ ss) ≡ with_rows (with_rows ds rs) ss
 with_append ds [] ss = refl
 with_append ds (r ∷ rs) ss = with_append (ds ++ division_of ds r ∷ []) rs ss
 
-pub divisions_push : (rs : List Row) (r : Row) → divisions (rs ++ r ∷ []) ≡ divisions rs ++ division_of (divisions rs) r ∷ []
+pub divisions_push : (rs : List QuotientRow) (r : QuotientRow) → divisions (rs ++ r ∷ []) ≡ divisions rs ++ division_of (divisions rs) r ∷ []
 divisions_push rs r = with_append [] rs (r ∷ [])
 
-ordered_from : (n : ℕ) (rs : List Row) (r : Row) → are_ordered n rs ≡ true → are_earlier (n + length rs) r.terms ≡ true → are_ordered n (rs ++ r ∷ []) ≡ true
+ordered_from : (n : ℕ) (rs : List QuotientRow) (r : QuotientRow) → are_ordered n rs ≡ true → are_earlier (n + length rs) r.terms ≡ true → are_ordered n (rs ++ r ∷ []) ≡ true
 ordered_from n [] r o h =
     let here : n + 0 ≡ n = omega arith in
     ap₂ (λ x y. x && y) (subst (λ m. are_earlier m r.terms ≡ true) here h) refl
@@ -133,7 +133,7 @@ ordered_from n (q ∷ rs) r o h =
     let place : n + suc (length rs) ≡ suc n + length rs = omega arith in
     ap₂ (λ x y. x && y) p.0 (ordered_from (suc n) rs r p.1 (subst (λ m. are_earlier m r.terms ≡ true) place h))
 
-pub ordered_push : (rs : List Row) (r : Row) → are_ordered 0 rs ≡ true → are_earlier (length (divisions rs)) r.terms ≡ true → are_ordered 0 (rs ++ r ∷ []) ≡ true
+pub ordered_push : (rs : List QuotientRow) (r : QuotientRow) → are_ordered 0 rs ≡ true → are_earlier (length (divisions rs)) r.terms ≡ true → are_ordered 0 (rs ++ r ∷ []) ≡ true
 ordered_push rs r o h = ordered_from 0 rs r o (subst (λ m. are_earlier m r.terms ≡ true) (length_with [] rs) h)
 
 all_kept_push : (ds : List Division) (d : Division) → are_all_kept ds ≡ true → is_kept_atom (atom_of d) ≡ true → are_all_kept (ds ++ d ∷ []) ≡ true
@@ -142,7 +142,7 @@ all_kept_push (e ∷ ds) d k h =
     let p = and_parts (is_kept_atom (atom_of e)) (are_all_kept ds) k in
     ap₂ (λ x y. x && y) p.0 (all_kept_push ds d p.1 h)
 
-pub kept_push : (rs : List Row) (r : Row) → are_all_kept (divisions rs) ≡ true → is_kept_atom (atom_of (division_of (divisions rs) r)) ≡ true → are_all_kept (divisions (rs ++ r ∷ [])) ≡ true
+pub kept_push : (rs : List QuotientRow) (r : QuotientRow) → are_all_kept (divisions rs) ≡ true → is_kept_atom (atom_of (division_of (divisions rs) r)) ≡ true → are_all_kept (divisions (rs ++ r ∷ [])) ≡ true
 kept_push rs r k h = ap are_all_kept (divisions_push rs r) ∙ all_kept_push (divisions rs) (division_of (divisions rs) r) k h
 
 -- ---- what is kept
@@ -175,7 +175,7 @@ short_of d k =
     (and_parts (are_short d.terms) (are_distinct d.terms && are_present d.terms) b.1).0
 
 -- the sum of a kept quotient
-pub kept_sum : (ds : List Division) (r : Row) → are_all_kept ds ≡ true → is_kept_atom (atom_of (division_of ds r)) ≡ true → are_kept (sum_of ds r.terms) ≡ true
+pub kept_sum : (ds : List Division) (r : QuotientRow) → are_all_kept ds ≡ true → is_kept_atom (atom_of (division_of ds r)) ≡ true → are_kept (sum_of ds r.terms) ≡ true
 kept_sum ds r h k = kept_short ds r.terms h (short_of (division_of ds r) k)
 
 -- ---- rows that are equal to the letter
@@ -209,25 +209,25 @@ sum_is ds (s ∷ ss) (t ∷ ts) h =
     let q = and_parts (int_eq s.coefficient t.coefficient) (is_part s.part t.part) p.0 in
     ap₂ (λ c a. term c a (sum_of ds ss)) (int_eq_same s.coefficient t.coefficient q.0) (part_is ds s.part t.part q.1) ∙ ap (term t.coefficient (part_atom ds t.part)) (sum_is ds ss ts p.1)
 
-pub row_is : (ds : List Division) (r s : Row) → is_row r s ≡ true → division_of ds r ≡ division_of ds s
+pub row_is : (ds : List Division) (r s : QuotientRow) → is_row r s ≡ true → division_of ds r ≡ division_of ds s
 row_is ds r s h =
     let p = and_parts (int_eq r.constant s.constant && int_eq r.by s.by) (are_shares r.terms s.terms) h in
     let q = and_parts (int_eq r.constant s.constant) (int_eq r.by s.by) p.0 in
     ap₂ (λ n c. made n c (sum_of ds r.terms)) (int_eq_same r.constant s.constant q.0) (int_eq_same r.by s.by q.1) ∙ ap (with_terms s) (sum_is ds r.terms s.terms p.1)
 
 -- the number that was found
-found_inside : (r : Row) (rs : List Row) (k : ℕ) → is_row_at r rs k ≡ true → k < length rs
+found_inside : (r : QuotientRow) (rs : List QuotientRow) (k : ℕ) → is_row_at r rs k ≡ true → k < length rs
 found_inside r [] k h = absurd (true≢false (sym h))
 found_inside r (s ∷ rs) zero h = omega arith
 found_inside r (s ∷ rs) (suc k) h = let below = found_inside r rs k h in omega (arith, below)
 
-found_is : (r : Row) (rs : List Row) (k : ℕ) (e : Row) → is_row_at r rs k ≡ true → is_row r (get_or rs k e) ≡ true
+found_is : (r : QuotientRow) (rs : List QuotientRow) (k : ℕ) (e : QuotientRow) → is_row_at r rs k ≡ true → is_row r (get_or rs k e) ≡ true
 found_is r [] k e h = absurd (true≢false (sym h))
 found_is r (s ∷ rs) zero e h = h
 found_is r (s ∷ rs) (suc k) e h = found_is r rs k e h
 
 -- a row that stands already
-pub found_holds : (r : Row) (rs : List Row) (k : ℕ) → are_ordered 0 rs ≡ true → is_row_at r rs k ≡ true → Holds (divisions rs) k (division_of (divisions rs) r)
+pub found_holds : (r : QuotientRow) (rs : List QuotientRow) (k : ℕ) → are_ordered 0 rs ≡ true → is_row_at r rs k ≡ true → Holds (divisions rs) k (division_of (divisions rs) r)
 found_holds r rs k o h =
     let below = found_inside r rs k h in
     let all = length_divisions rs in

@@ -8,7 +8,7 @@ use Rattle.affine_forms.specs.declared.leaf.Leaf.TheVariants.{UnknownField, Opaq
 use Rattle.affine_forms.specs.declared.row.Part.{Part}
 use Rattle.affine_forms.specs.declared.row.Part.TheVariants.{Whole, Earlier}
 use Rattle.affine_forms.specs.declared.row.Share.{Share}
-use Rattle.affine_forms.specs.declared.row.Row.{Row}
+use Rattle.affine_forms.specs.declared.row.QuotientRow.{QuotientRow}
 
 abbrev pub plain_leaf : Leaf → plain.Leaf
 plain_leaf (Variable x) = plain.OfVariable x.0
@@ -26,8 +26,8 @@ plain_share s = record { coefficient = s.coefficient; part = plain_part s.part }
 abbrev pub plain_shares : List Share → List plain.Share
 plain_shares ss = map plain_share ss
 
-abbrev pub plain_row : Row → plain.Row
+abbrev pub plain_row : QuotientRow → plain.QuotientRow
 plain_row r = record { constant = r.constant; terms = plain_shares r.terms.items; by = r.by }
 
-abbrev pub plain_rows : List Row → List plain.Row
+abbrev pub plain_rows : List QuotientRow → List plain.QuotientRow
 plain_rows rows = map plain_row rows

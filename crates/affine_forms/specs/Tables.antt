@@ -54,7 +54,7 @@ pub record Share : Type 0 where
   pub part : Part
 
 -- the quotient of a constant and a sum by a literal
-pub record Row : Type 0 where
+pub record QuotientRow : Type 0 where
   pub constant : ℤ
   pub terms : List Share
   pub by : ℤ
@@ -73,15 +73,15 @@ abbrev pub sum_of : List Division → List Share → Terms
 sum_of ds [] = none
 sum_of ds (s ∷ ss) = term s.coefficient (part_atom ds s.part) (sum_of ds ss)
 
-abbrev pub division_of : List Division → Row → Division
+abbrev pub division_of : List Division → QuotientRow → Division
 division_of ds r = record { constant = r.constant; terms = sum_of ds r.terms; by = r.by }
 
 -- the quotients so far, and those of more rows
-abbrev pub with_rows : List Division → List Row → List Division
+abbrev pub with_rows : List Division → List QuotientRow → List Division
 with_rows ds [] = ds
 with_rows ds (r ∷ rs) = with_rows (ds ++ division_of ds r ∷ []) rs
 
-abbrev pub divisions : List Row → List Division
+abbrev pub divisions : List QuotientRow → List Division
 divisions rows = with_rows [] rows
 
 -- ---- what a table keeps
@@ -95,7 +95,7 @@ are_earlier n [] = true
 are_earlier n (s ∷ ss) = is_earlier n s.part && are_earlier n ss
 
 -- each row names only rows before it; n is the number of the first
-abbrev pub are_ordered : ℕ → List Row → Bool
+abbrev pub are_ordered : ℕ → List QuotientRow → Bool
 are_ordered n [] = true
 are_ordered n (r ∷ rs) = are_earlier n r.terms && are_ordered (suc n) rs
 
@@ -124,11 +124,11 @@ are_shares (s ∷ ss) ts = elim ts [
   | t ∷ us ↦ (int_eq s.coefficient t.coefficient && is_part s.part t.part) && are_shares ss us
 ]
 
-abbrev pub is_row : Row → Row → Bool
+abbrev pub is_row : QuotientRow → QuotientRow → Bool
 is_row r s = (int_eq r.constant s.constant && int_eq r.by s.by) && are_shares r.terms s.terms
 
 -- that number is the number of a row that is equal to the letter
-abbrev pub is_row_at : Row → List Row → ℕ → Bool
+abbrev pub is_row_at : QuotientRow → List QuotientRow → ℕ → Bool
 is_row_at r [] k = false
 is_row_at r (s ∷ rs) zero = is_row r s
 is_row_at r (s ∷ rs) (suc k) = is_row_at r rs k
@@ -179,14 +179,14 @@ known_sum lines (s ∷ ss) ts =
     elim (share_taken lines s ts) [ None ↦ false | Some us ↦ known_sum lines ss us ]
 
 -- the constants, the literals and the numbers of terms are equal
-abbrev pub are_alike : Row → Row → Bool
+abbrev pub are_alike : QuotientRow → QuotientRow → Bool
 are_alike r s =
     (int_eq r.constant s.constant && int_eq r.by s.by) && length r.terms == length s.terms
 
-abbrev pub known_row : List (List Bool) → Row → Row → Bool
+abbrev pub known_row : List (List Bool) → QuotientRow → QuotientRow → Bool
 known_row lines r s = are_alike r s && known_sum lines r.terms s.terms
 
 -- the lines so far, and those of more rows
-abbrev pub with_lines : List (List Bool) → List Row → List Row → List (List Bool)
+abbrev pub with_lines : List (List Bool) → List QuotientRow → List QuotientRow → List (List Bool)
 with_lines lines [] ss = lines
 with_lines lines (r ∷ rs) ss = with_lines (lines ++ map (known_row lines r) ss ∷ []) rs ss

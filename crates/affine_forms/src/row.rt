@@ -187,15 +187,15 @@ fn is_same_sum(
 
 /// The quotient of a constant and a sum by a literal.
 #[derive(Drop)]
-pub(crate) struct Row {
+pub(crate) struct QuotientRow {
     pub(crate) constant: i128,
     pub(crate) terms: Vec<Share>,
     pub(crate) by: i64,
 }
 
-impl Row {
+impl QuotientRow {
     /// Whether two rows are equal to the letter.
-    fn is(&self, other: &Row) -> bool
+    fn is(&self, other: &QuotientRow) -> bool
         ensures { result ≡ is_row (plain_row self.now) (plain_row other.now) }
     {
         (self.constant == other.constant && self.by == other.by)
@@ -203,7 +203,7 @@ impl Row {
     }
 
     /// The row with the new numbers of the rows that it names.
-    pub(crate) fn moved(&self, alloc: Global, numbers: &[usize]) -> Result<Row, AllocError>
+    pub(crate) fn moved(&self, alloc: Global, numbers: &[usize]) -> Result<QuotientRow, AllocError>
         requires { IsTrue (are_earlier (length numbers.now) (plain_shares self.now.terms.items)) }
         ensures { IfOk result (λ r. plain_row r ≡ record (plain_row self.now) {
           terms = map (moved_share numbers.now) (plain_shares self.now.terms.items);
@@ -213,7 +213,7 @@ impl Row {
         for s in &self.terms {
             terms.push(s.moved(numbers)?)?;
         }
-        Ok(Row {
+        Ok(QuotientRow {
             constant: self.constant,
             terms,
             by: self.by,
@@ -221,7 +221,7 @@ impl Row {
     }
 
     /// Whether the constants, the literals and the numbers of terms are equal.
-    pub(crate) fn is_alike(&self, other: &Row) -> bool
+    pub(crate) fn is_alike(&self, other: &QuotientRow) -> bool
         ensures { result ≡ are_alike (plain_row self.now) (plain_row other.now) }
     {
         (self.constant == other.constant && self.by == other.by)
@@ -229,7 +229,7 @@ impl Row {
     }
 
     /// Whether two rows of different tables are equal.
-    fn same(&self, alloc: Global, other: &Row, lines: &[Line]) -> Result<bool, AllocError>
+    fn same(&self, alloc: Global, other: &QuotientRow, lines: &[Line]) -> Result<bool, AllocError>
         ensures { IfOk result (λ b. b
             ≡ known_row lines.now (plain_row self.now) (plain_row other.now)) }
     {
@@ -241,7 +241,7 @@ impl Row {
 }
 
 /// The number of a row that is equal to the letter.
-pub(crate) fn place_of(rows: &[Row], row: &Row) -> Option<usize>
+pub(crate) fn place_of(rows: &[QuotientRow], row: &QuotientRow) -> Option<usize>
     ensures { IfSome result (λ k. IsTrue (is_row_at (plain_row row.now) (plain_rows rows.now) k)) }
 {
     for (k, other) in rows.iter().enumerate() {
@@ -288,7 +288,12 @@ fn is_known(lines: &[Line], i: usize, j: usize) -> bool
 }
 
 /// The line of a row, by those of the rows before it.
-fn line_of(alloc: Global, row: &Row, others: &[Row], lines: &[Line]) -> Result<Line, AllocError>
+fn line_of(
+    alloc: Global,
+    row: &QuotientRow,
+    others: &[QuotientRow],
+    lines: &[Line],
+) -> Result<Line, AllocError>
     ensures { IfOk result (λ l. l
         ≡ map (known_row lines.now (plain_row row.now)) (plain_rows others.now)) }
 {
@@ -300,7 +305,11 @@ fn line_of(alloc: Global, row: &Row, others: &[Row], lines: &[Line]) -> Result<L
 }
 
 /// The lines of rows, each over the earlier ones.
-fn lines(alloc: Global, rows: &[Row], others: &[Row]) -> Result<Vec<Line>, AllocError>
+fn lines(
+    alloc: Global,
+    rows: &[QuotientRow],
+    others: &[QuotientRow],
+) -> Result<Vec<Line>, AllocError>
     ensures { IfOk result (λ v. v.items
         ≡ with_lines [] (plain_rows rows.now) (plain_rows others.now)) }
 {
@@ -313,7 +322,7 @@ fn lines(alloc: Global, rows: &[Row], others: &[Row]) -> Result<Vec<Line>, Alloc
 }
 
 /// The rows up to one of them, and that one.
-fn rows_to(rows: &[Row], last: usize) -> &[Row]
+fn rows_to(rows: &[QuotientRow], last: usize) -> &[QuotientRow]
     requires { last < length rows.now }
     ensures { result.now ≡ take (last + 1) rows.now }
 {
@@ -323,9 +332,9 @@ fn rows_to(rows: &[Row], last: usize) -> &[Row]
 /// Whether two rows of different tables are equal. The rows after them are not looked at.
 pub(crate) fn are_same(
     alloc: Global,
-    rows: &[Row],
+    rows: &[QuotientRow],
     i: usize,
-    others: &[Row],
+    others: &[QuotientRow],
     j: usize,
 ) -> Result<bool, AllocError>
     requires inside { i < length rows.now }

@@ -9,14 +9,14 @@ ghost use Rattle.affine_forms.specs.PlainTables.{plain_part, plain_shares, plain
 
 use crate::atom::{Atom, Terms};
 use crate::leaf::Leaf;
-use crate::row::{Part, Row, Share, are_same, place_of};
+use crate::row::{Part, QuotientRow, Share, are_same, place_of};
 use std::alloc::{AllocError, Global};
 use std::marker::Model;
 
 /// Quotients, each over earlier ones. One that stands already, to the letter, is not put again.
 #[derive(Drop)]
 pub(crate) struct Table {
-    rows: Vec<Row>,
+    rows: Vec<QuotientRow>,
 }
 
 impl Model for Table {
@@ -47,7 +47,7 @@ impl Table {
     }
 
     /// The row of a quotient.
-    pub(crate) fn row(&self, k: usize) -> &Row
+    pub(crate) fn row(&self, k: usize) -> &QuotientRow
         requires { k < length self.now }
         ensures value { division_of self.now (plain_row result.now)
             ≡ get_or self.now k no_division }
@@ -59,7 +59,7 @@ impl Table {
     }
 
     /// Puts a row last, if it is new, and gives its number.
-    fn put(&mut self, row: Row) -> Result<usize, AllocError>
+    fn put(&mut self, row: QuotientRow) -> Result<usize, AllocError>
         requires earlier { IsTrue (are_earlier (length self.old) (plain_row row).terms) }
         requires kept { IsTrue (is_kept_atom (atom_of (division_of self.old (plain_row row)))) }
         ensures grown { OnOk result (Extends self.old self.new) }
@@ -147,7 +147,7 @@ impl Table {
         })) }
     {
         let shares = self.shares(alloc, terms)?;
-        self.put(Row {
+        self.put(QuotientRow {
             constant,
             terms: shares,
             by,

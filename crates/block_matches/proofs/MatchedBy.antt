@@ -4,6 +4,7 @@ use Rattle.std.proofs.Common.{ap₂, sym, ◌∙◌}
 use Rattle.std.specs.Prelude.{Result, Ok, Err}
 use Rattle.exo_tree.specs.Tree.{Argument, Block, Procedure}
 use Rattle.exo_tree.specs.Places.{Path}
+use Rattle.exo_tree.specs.Passed.{passed_for}
 use Rattle.affine_forms.specs.Forms.{Reading}
 use Rattle.affine_forms.specs.Outcomes.{IsWide}
 use Rattle.affine_forms.specs.declared.error.FormError.{FormError}
@@ -88,7 +89,7 @@ module _ (at : Reading) (theirs : Names) (b : Block) (q : Procedure) where
   abbrev given_by : List Argument → Moving
   given_by args =
       moving (plain.params at theirs b q) (plain.to at theirs b q)
-      (plain.given_to at theirs b q q.params args)
+      (passed_for q.params args)
 
   abbrev stride_difference : List Argument → Option Path
   stride_difference args = first_difference at (given_by args) (plain.walk at theirs b q)
@@ -126,7 +127,7 @@ module _ (at : Reading) (theirs : Names) (b : Block) (q : Procedure) where
   pub at_arguments : {T : Type 0} (f : Moving → List Pair → T) (own : ℕ → Bool) (to : ℕ → Option ℕ)
       (given by : ℕ → Option Argument) (walk : List Pair) (args : List Argument)
       → IsWalk at theirs b q own to given walk
-      → by ≡ plain.given_to at theirs b q q.params args
+      → by ≡ passed_for q.params args
       → f (moving (plain.params at theirs b q) to by) walk
       ≡ f (given_by args) (plain.walk at theirs b q)
   at_arguments f own to given by walk args is h =

@@ -7,11 +7,12 @@ use Rattle.std.proofs.lemmas.Bool.Decides.{nat_tests}
 use Rattle.std.specs.Prelude.{is_some, if◌then◌else◌}
 use Rattle.exo_tree.specs.Tree.{Argument, Binder, ParamKind, ControlParam, TensorParam, WindowParam}
 use Rattle.exo_tree.specs.Tree.{Param, Procedure, Block}
+use Rattle.exo_tree.specs.Passed.{passed_for}
 use Rattle.exo_meaning.specs.Scene.{updated}
 use Rattle.affine_forms.specs.Forms.{Reading}
 use Rattle.match_laws.specs.Names.{Names}
 use Rattle.match_laws.specs.Pairs.{Pair}
-use Rattle.match_laws.specs.Matched.{argument_in, given_to, is_undetermined, first_undetermined}
+use Rattle.match_laws.specs.Matched.{argument_in, is_undetermined, first_undetermined}
 use Rattle.block_matches.specs.Noted.{earlier, entry, given_by, is_open}
 
 -- an item, and those behind it
@@ -103,20 +104,19 @@ or_cond : {A : Type 0} (b : Bool) (v : A) (o : Option A)
 or_cond true v o = refl
 or_cond false v o = refl
 
-module _ (at : Reading) (theirs : Names) (b : Block) (q : Procedure) where
-  given_same : (ps : List Param) (args : List Argument) (x : ℕ)
-      → given_by ps args x ≡ given_to at theirs b q ps args x
-  given_same [] args x = refl
-  given_same (p ∷ ps) [] x = refl
-  given_same (p ∷ ps) (a ∷ args) x =
-      or_cond (eqb p.binder.id x) a (given_by ps args x)
-      ∙ ap (cond (eqb p.binder.id x) (Some a)) (given_same ps args x)
+given_same : (ps : List Param) (args : List Argument) (x : ℕ)
+    → given_by ps args x ≡ passed_for ps args x
+given_same [] args x = refl
+given_same (p ∷ ps) [] x = refl
+given_same (p ∷ ps) (a ∷ args) x =
+    or_cond (eqb p.binder.id x) a (given_by ps args x)
+    ∙ ap (cond (eqb p.binder.id x) (Some a)) (given_same ps args x)
 
-  pub arguments_all : (ps : List Param) (args : List Argument) (given all : ℕ → Option Argument)
-      → all ≡ earlier given (given_by ps args) → given ≡ (λ x. None)
-      → all ≡ given_to at theirs b q ps args
-  arguments_all ps args given all h k =
-      h ∙ ap (λ t. earlier t (given_by ps args)) k ∙ (λ i x. given_same ps args x i)
+pub arguments_all : (ps : List Param) (args : List Argument) (given all : ℕ → Option Argument)
+    → all ≡ earlier given (given_by ps args) → given ≡ (λ x. None)
+    → all ≡ passed_for ps args
+arguments_all ps args given all h k =
+    h ∙ ap (λ t. earlier t (given_by ps args)) k ∙ (λ i x. given_same ps args x i)
 
 -- ---- what is open
 

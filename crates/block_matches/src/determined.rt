@@ -1,14 +1,12 @@
 //! What is given for each parameter, as far as it is known.
 ghost use Rattle.std.specs.Prelude.{◌≡◌, None, map, option_map, IfOk, OnOk};
-ghost use Rattle.exo_tree.specs.Tree as tree;
+ghost use Rattle.exo_tree.specs.Passed.{passed_for};
 ghost use Rattle.exo_tree.specs.PlainArgument.{argument};
 ghost use Rattle.exo_tree.specs.PlainParam.{parameter};
 ghost use Rattle.exo_tree.specs.PlainProcedure.{procedure};
-ghost use Rattle.affine_forms.specs.Forms.{Reading};
 ghost use Rattle.inplace_laws.specs.Inline.{is_param};
-ghost use Rattle.match_laws.specs.Names.{Names};
 ghost use Rattle.match_laws.specs.Matched as plain;
-ghost use Rattle.match_laws.specs.Matched.{argument_if, argument_in, given_to, first_undetermined};
+ghost use Rattle.match_laws.specs.Matched.{argument_if, argument_in, first_undetermined};
 ghost use Rattle.block_matches.specs.Pairs.PlainPair.{plain_pair};
 ghost use Rattle.block_matches.specs.Held.{determined_in};
 ghost use Rattle.block_matches.specs.Noted.{earlier, entry, given_by, is_open};
@@ -44,16 +42,14 @@ impl<'a> Determined<'a> {
         Ok(found)
     }
 
-    /// The arguments, for parameters in order. (The walk that the definition of `given_to` names
-    /// plays no part in it.)
+    /// The arguments, for parameters in order.
     pub(crate) fn of_arguments(
         alloc: Global,
         callee: &Proc,
         args: &'a Args,
     ) -> Result<Determined<'a>, AllocError>
-        ensures { IfOk result (λ t. (reads : Reading) (theirs : Names) (b : tree.Block)
-            → determined_in t ≡ given_to reads theirs b (procedure callee.now)
-            (procedure callee.now).params args.now) }
+        ensures { IfOk result
+            (λ t. determined_in t ≡ passed_for (procedure callee.now).params args.now) }
     {
         let mut found = Determined::new(alloc);
         found.note_arguments(callee.params.as_slice(), args.as_slice())?;

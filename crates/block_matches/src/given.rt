@@ -34,13 +34,13 @@ impl<'a> Given<'a> {
 
 /// A parameter, and what is given for it.
 #[derive(Clone, Copy)]
-pub(crate) struct Known<'a> {
+pub(crate) struct KnownParameter<'a> {
     pub(crate) param: Id,
     pub(crate) argument: Given<'a>,
 }
 
 /// What a pair determines, where a parameter is the whole of a bound or of a written value.
-pub(crate) fn known_by<'a>(callee: &Proc, pair: &Pair<'a>) -> Option<Known<'a>>
+pub(crate) fn known_by<'a>(callee: &Proc, pair: &Pair<'a>) -> Option<KnownParameter<'a>>
     ensures { option_map plain_known result
         ≡ known_by (is_param (procedure callee.now)) (plain_pair pair.now) }
 {
@@ -50,7 +50,7 @@ pub(crate) fn known_by<'a>(callee: &Proc, pair: &Pair<'a>) -> Option<Known<'a>>
         _ => return None,
     };
     if is_param(callee.params.as_slice(), param) {
-        Some(Known { param, argument })
+        Some(KnownParameter { param, argument })
     } else {
         None
     }

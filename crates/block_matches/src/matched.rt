@@ -1,6 +1,7 @@
 //! The match of a block with a callee's body.
 ghost use Rattle.std.specs.Prelude.{◌≡◌, ◌&&◌, false, map, option_map, None, Ok, IfOk};
 ghost use Rattle.exo_tree.specs.Tree.{block};
+ghost use Rattle.exo_tree.specs.Passed.{passed_for};
 ghost use Rattle.exo_tree.specs.PlainProcedure.{procedure};
 ghost use Rattle.meaning_laws.specs.Scoped.{has_binder, is_param};
 ghost use Rattle.match_laws.specs.Names.{names_of};
@@ -19,7 +20,7 @@ use crate::chosen::Choosing;
 use crate::comparing::first_difference;
 use crate::determined::{Determined, first_undetermined};
 use crate::moving::Moving;
-use crate::pairs::{IdSet, NameTable, Pair, Walk};
+use crate::pairs::{IdSet, NameTable, Pair, PairWalk};
 use crate::partners::Partners;
 use crate::walked::walked;
 use affine_forms::{FormError, Reader};
@@ -46,7 +47,7 @@ fn undetermined(alloc: Global, ours: &NameTable, callee: &Proc) -> Result<Option
         (procedure callee.now).params) }
 {
     let bound = IdSet::new(alloc);
-    let walk = Walk {
+    let walk = PairWalk {
         callee,
         bound: &bound,
         ours,
@@ -95,9 +96,7 @@ impl<R: Reader> Choosing<'_, R> {
             (block self.now.against.now) (procedure self.now.by.callee.now)) (plain.to
             (R.reading self.now.reader.now) (names_in self.now.theirs.now)
             (block self.now.against.now) (procedure self.now.by.callee.now))
-            (plain.given_to (R.reading self.now.reader.now) (names_in self.now.theirs.now)
-            (block self.now.against.now) (procedure self.now.by.callee.now)
-            (procedure self.now.by.callee.now).params args.now))
+            (passed_for (procedure self.now.by.callee.now).params args.now))
             (plain.walk (R.reading self.now.reader.now) (names_in self.now.theirs.now)
             (block self.now.against.now) (procedure self.now.by.callee.now))) }
         ensures fits { ComesIf result
@@ -107,9 +106,7 @@ impl<R: Reader> Choosing<'_, R> {
             (block self.now.against.now) (procedure self.now.by.callee.now)) (plain.to
             (R.reading self.now.reader.now) (names_in self.now.theirs.now)
             (block self.now.against.now) (procedure self.now.by.callee.now))
-            (plain.given_to (R.reading self.now.reader.now) (names_in self.now.theirs.now)
-            (block self.now.against.now) (procedure self.now.by.callee.now)
-            (procedure self.now.by.callee.now).params args.now))
+            (passed_for (procedure self.now.by.callee.now).params args.now))
             (plain.walk (R.reading self.now.reader.now) (names_in self.now.theirs.now)
             (block self.now.against.now) (procedure self.now.by.callee.now))) }
     {
@@ -324,7 +321,7 @@ impl<R: Reader> Sides<'_, R> {
             (match_is_short (R.reading self.now.reader.now) (names_in self.now.theirs.now)
             (block self.now.against.now) (procedure self.now.callee.now)) }
     {
-        let walk = Walk {
+        let walk = PairWalk {
             callee: self.callee,
             bound: self.bound,
             ours,

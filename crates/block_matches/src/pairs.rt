@@ -14,4 +14,4 @@ pub use buffer::{Buffer, difference};
 pub use ids::IdSet;
 pub use names::{NameTable, is_param};
 pub use pair::Pair;
-pub use walk::Walk;
+pub use walk::PairWalk;

@@ -10,7 +10,7 @@ ghost use Rattle.block_matches.specs.Held.{partners_in};
 ghost use Rattle.block_matches.specs.Kept.{kept, cut_at};
 ghost use Rattle.block_matches.specs.PlainGiven.{plain_given, plain_known};
 
-use crate::given::{Given, Known, known_by};
+use crate::given::{Given, KnownParameter, known_by};
 use crate::pairs::{IdSet, Pair};
 use crate::partners::Partners;
 use exo_tree::{Path, Proc};
@@ -29,7 +29,7 @@ fn holds_bound(bound: &IdSet, argument: Given<'_>) -> bool
 }
 
 /// Whether what a pair determines for the first time holds such a name.
-fn is_caught(seen: &IdSet, bound: &IdSet, known: Option<Known<'_>>) -> bool
+fn is_caught(seen: &IdSet, bound: &IdSet, known: Option<KnownParameter<'_>>) -> bool
     ensures { result
         ≡ plain.is_caught (ids_in seen.now) (ids_in bound.now)
         (option_map plain_known known.entry) }

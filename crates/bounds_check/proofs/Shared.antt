@@ -14,11 +14,11 @@ use Rattle.affine_places.specs.contracts.roots.Roots as Roots
 use Rattle.affine_systems.proofs.amount.Amount.TheSendSync as amount
 use Rattle.exo_modes.proofs.table.ModeTable.TheSendSync as modes
 use Rattle.exo_tree.proofs.number.ProcId.TheSendSync as proc_id
-use Rattle.text_show.specs.contracts.names.Names as Names
+use Rattle.text_show.specs.contracts.names.ShownNames as Names
 use Rattle.text_show.specs.contracts.words.Words as Words
 use Rattle.check_claims.specs.contracts.extents.Extents as Claimed
 use Rattle.check_claims.specs.contracts.sources.Sources as Sources
-use Rattle.bounds_check.specs.contracts.claims.Site as Site
+use Rattle.bounds_check.specs.contracts.claims.ProcedureSite as ProcedureSite
 use Rattle.bounds_check.specs.contracts.listing.Listing as Listing
 use Rattle.bounds_check.proofs.Crosses.{Indices-sync, Proc-sync, Unit-sync}
 
@@ -117,10 +117,10 @@ module _ (a : NamedLft) where
   Listing-sync = as_row_sync (Listing.the_field a) Listing-field_sync
 
 module _ (s a : NamedLft) where
-  Site-field_sync : IsSync (Site.the_field s a).row
-  Site-field_sync =
+  ProcedureSite-field_sync : IsSync (ProcedureSite.the_field s a).row
+  ProcedureSite-field_sync =
       let u = Unit-sync in let p = Proc-sync in let r = Roots-sync a in let t = table.the_sync in
       search sendable depth 20
 
-  pub Site-sync : IsSync (Site.the_row s a)
-  Site-sync = as_row_sync (Site.the_field s a) Site-field_sync
+  pub ProcedureSite-sync : IsSync (ProcedureSite.the_row s a)
+  ProcedureSite-sync = as_row_sync (ProcedureSite.the_field s a) ProcedureSite-field_sync

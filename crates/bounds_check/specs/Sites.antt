@@ -16,7 +16,7 @@ use Rattle.check_claims.specs.Claim.{Claim}
 use Rattle.check_facts.specs.Contexts.{may_be_walked, context_of, context_fits, facts_of}
 use Rattle.effect_conflicts.specs.declared.standing.Standing.{Standing}
 use Rattle.bounds_check.specs.Outcomes.{Owes}
-use Rattle.bounds_check.specs.declared.claims.Site.{Site}
+use Rattle.bounds_check.specs.declared.claims.ProcedureSite.{ProcedureSite}
 use Rattle.bounds_check.specs.declared.error.CheckError.{CheckError}
 
 -- a procedure of the unit keeps the rules, below some others
@@ -25,7 +25,7 @@ IsFormed u p =
     (above : List Callee) × IsProcedure (field_kind u.fields) (length u.memories) (slice_get above) p
 
 -- the tables are those of a well-formed procedure and its unit
-pub record IsSite (s : Site) : Type 0 where
+pub record IsSite (s : ProcedureSite) : Type 0 where
   pub numbered : length (program s.unit.now).fields < 4294967296
   pub formed : IsFormed (program s.unit.now) (procedure s.proc.now)
   pub walked : may_be_walked (procedure s.proc.now) ≡ true

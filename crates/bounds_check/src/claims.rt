@@ -19,7 +19,7 @@ use affine_forms::formula_of;
 use affine_places::{AtPlace, Roots};
 use affine_systems::{Context, OwedList, systems};
 use check_claims::{Claim, Placed};
-use check_facts::Cursor;
+use check_facts::PlaceWalk;
 use config_state::FieldTable;
 use effect_conflicts::{Order, Standing, conflicts};
 use effect_laws::bounds::laws::{arguments_are_low, contexts_are_low};
@@ -29,7 +29,7 @@ use std::alloc::Global;
 
 /// A procedure of a unit, the roots of its names, and the fields that each procedure of the unit may write.
 #[derive(Drop)]
-pub(crate) struct Site<'s, 'a> {
+pub(crate) struct ProcedureSite<'s, 'a> {
     pub(crate) unit: &'s Unit,
     pub(crate) proc: &'s Proc,
     pub(crate) roots: &'s Roots<'a>,
@@ -108,8 +108,8 @@ fn put_claim(
 /// Puts the obligations of claims of one place last, in their order.
 pub(crate) fn put_claims(
     alloc: Global,
-    site: &Site<'_, '_>,
-    cursor: &mut Cursor<'_, '_>,
+    site: &ProcedureSite<'_, '_>,
+    cursor: &mut PlaceWalk<'_, '_>,
     place: &Path,
     claims: &[Placed],
     out: &mut OwedList,

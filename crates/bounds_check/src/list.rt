@@ -19,14 +19,14 @@ ghost use Rattle.bounds_check.specs.Outcomes.{AreObligationsIn, AreOwedFor, AreO
 ghost use Rattle.bounds_check.specs.Chunks.{listed_in};
 ghost use Rattle.bounds_check.specs.Sites.{IsSite};
 
-use crate::claims::{Site, put_claims};
+use crate::claims::{ProcedureSite, put_claims};
 use crate::error::CheckError;
 use crate::laws::claims_may_be_owed;
 use affine_places::Roots;
 use affine_systems::{Obligation, OwedList};
 use check_claims::{Placed, claims_of, claims_there};
 use check_facts::laws::well_formed_procedures_may_be_walked;
-use check_facts::{Cursor, is_same_path};
+use check_facts::{PlaceWalk, is_same_path};
 use config_state::{FieldTable, written_table};
 use exo_modes::ModeTable;
 use exo_tree::{Path, Proc, ProcId, Unit};
@@ -49,7 +49,7 @@ fn count_at(claims: &[Placed], place: &Path) -> usize
 /// The obligations of claims of a procedure.
 pub(crate) fn obligations_of_claims(
     alloc: Global,
-    site: &Site<'_, '_>,
+    site: &ProcedureSite<'_, '_>,
     claims: &[Placed],
 ) -> Result<Vec<Obligation>, CheckError>
     requires site { IsSite site.now }
@@ -58,7 +58,7 @@ pub(crate) fn obligations_of_claims(
     ensures { AreOwedFor result (program site.now.unit.now)
         (procedure site.now.proc.now) (map placed claims.now) }
 {
-    let mut cursor = Cursor::new(alloc, site.unit, site.proc, site.roots, site.writes);
+    let mut cursor = PlaceWalk::new(alloc, site.unit, site.proc, site.roots, site.writes);
     let mut out = OwedList::new(alloc);
     let mut rest = claims;
     while let Some(first) = rest.first() {
@@ -101,7 +101,7 @@ fn joined(
 fn listed_in_chunks<R: Threads + Sync>(
     rt: &R,
     alloc: Global,
-    site: &Site<'_, '_>,
+    site: &ProcedureSite<'_, '_>,
     claims: &[Placed],
     size: usize,
 ) -> Result<Vec<Obligation>, CheckError>
@@ -132,7 +132,7 @@ fn listed_in_chunks<R: Threads + Sync>(
 fn listed<R: Threads + Sync>(
     rt: &R,
     alloc: Global,
-    site: &Site<'_, '_>,
+    site: &ProcedureSite<'_, '_>,
     claims: &[Placed],
 ) -> Result<Vec<Obligation>, CheckError>
     requires site { IsSite site.now }
@@ -173,7 +173,7 @@ pub fn obligations_with_tables<R: Threads + Sync>(
         Some(proc) => {
             let roots = Roots::of(alloc, proc)?;
             let claims = claims_of(alloc, unit, modes, &roots, p)?;
-            let site = Site {
+            let site = ProcedureSite {
                 unit,
                 proc,
                 roots: &roots,
@@ -208,7 +208,7 @@ pub fn obligations_there(
         Some(proc) => {
             let roots = Roots::of(alloc, proc)?;
             let claims = claims_there(alloc, unit, modes, &roots, p, path)?;
-            let site = Site {
+            let site = ProcedureSite {
                 unit,
                 proc,
                 roots: &roots,

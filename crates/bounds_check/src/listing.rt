@@ -14,7 +14,7 @@ ghost use Rattle.bounds_check.specs.Parts.{IsRange};
 ghost use Rattle.bounds_check.specs.Sites.{IsSite};
 ghost use Rattle.bounds_check.specs.declared.error.CheckError.TheVariants.{Memory};
 
-use crate::claims::{Site, put_claims};
+use crate::claims::{ProcedureSite, put_claims};
 use crate::error::CheckError;
 use crate::laws::claims_may_be_owed;
 use crate::list::obligations_of_claims;
@@ -23,7 +23,7 @@ use affine_places::Roots;
 use affine_systems::{Amount, Obligation, OwedList};
 use check_claims::laws::places_have_all_claims;
 use check_claims::{Part, Placed, Sources, claims_between};
-use check_facts::Cursor;
+use check_facts::PlaceWalk;
 use check_facts::laws::well_formed_procedures_may_be_walked;
 use config_state::FieldTable;
 use exo_modes::ModeTable;
@@ -77,7 +77,7 @@ fn joined_ranges(alloc: Global, first: Range, second: Range) -> Result<Range, Ch
 /// without a thread.
 fn find_refusal(
     alloc: Global,
-    site: &Site<'_, '_>,
+    site: &ProcedureSite<'_, '_>,
     claims: &[Placed],
     before: Amount,
 ) -> Result<(), CheckError>
@@ -90,7 +90,7 @@ fn find_refusal(
         (first_fault (program site.now.unit.now) (procedure site.now.proc.now) os
         (map placed claims.now)) }
 {
-    let mut cursor = Cursor::new(alloc, site.unit, site.proc, site.roots, site.writes);
+    let mut cursor = PlaceWalk::new(alloc, site.unit, site.proc, site.roots, site.writes);
     let mut amount = before;
     let mut rest = claims;
     while let Some(first) = rest.first() {
@@ -104,7 +104,12 @@ fn find_refusal(
 }
 
 /// Why claims are refused, behind so much that is owed before them; `Memory` where they are not.
-fn refusal(alloc: Global, site: &Site<'_, '_>, claims: &[Placed], before: Amount) -> CheckError
+fn refusal(
+    alloc: Global,
+    site: &ProcedureSite<'_, '_>,
+    claims: &[Placed],
+    before: Amount,
+) -> CheckError
     requires site { IsSite site.now }
     requires owable { IsTrue
         (list_all (may_be_owed (procedure site.now.proc.now)) (map placed claims.now)) }
@@ -231,7 +236,7 @@ impl<'u> Listing<'u> {
         claims_may_be_owed();
         places_have_all_claims();
         well_formed_procedures_may_be_walked();
-        let site = Site {
+        let site = ProcedureSite {
             unit: self.unit,
             proc: self.proc,
             roots: &self.roots,
@@ -303,7 +308,7 @@ impl<'u> Listing<'u> {
         claims_may_be_owed();
         places_have_all_claims();
         well_formed_procedures_may_be_walked();
-        let site = Site {
+        let site = ProcedureSite {
             unit: self.unit,
             proc: self.proc,
             roots: &self.roots,

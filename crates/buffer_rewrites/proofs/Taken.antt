@@ -1,5 +1,5 @@
 -- A part of an expression taken out, an expression at a time.
-use Rattle.std.proofs.Common.{◌≡◌, ℕ, suc, Bool, true, false, [], refl, sym, ap, ◌∙◌, subst}
+use Rattle.std.proofs.Common.{◌≡◌, ℕ, suc, ◌+◌, Bool, true, false, if◌then◌else◌, [], refl, sym, ap, ◌∙◌, subst, arith}
 use Rattle.std.proofs.Common.{MatchBool}
 use Rattle.std.proofs.lemmas.Bool.{false≢true}
 use Rattle.exo_tree.specs.Tree.{Datum, Const, Read, Negated, Relu, Plus, Minus, Times, Select}
@@ -16,15 +16,12 @@ use Rattle.buffer_rewrites.specs.Taking.{is_one, Takes}
 -- ---- at the root
 
 module _ (m : Bool) (k : ℕ) where
-  pub none_at_root : m ≡ false → (e : Datum) (below : ℕ → Sought) → at_root m e below k ≡ below k
-  none_at_root h e below = ap (λ (t : Bool). at_root t e below k) h
-
-  pub first_at_root : m ≡ true → k ≡ 0 → (e : Datum) (below : ℕ → Sought)
+  first_at_root : m ≡ true → k ≡ 0 → (e : Datum) (below : ℕ → Sought)
       → at_root m e below k ≡ Found (record { hole = Top; datum = e })
   first_at_root h z e below =
       ap (λ (t : Bool). at_root t e below k) h ∙ ap (λ (j : ℕ). at_root true e below j) z
 
-  pub passed_at_root : (j : ℕ) → m ≡ true → k ≡ suc j → (e : Datum) (below : ℕ → Sought)
+  passed_at_root : (j : ℕ) → m ≡ true → k ≡ suc j → (e : Datum) (below : ℕ → Sought)
       → at_root m e below k ≡ below j
   passed_at_root j h z e below =
       ap (λ (t : Bool). at_root t e below k) h ∙ ap (λ (i : ℕ). at_root true e below i) z
@@ -60,12 +57,26 @@ by_root f (Select a b c d) k = refl
 -- ---- what a walk does
 
 -- as the test at the root says it
-abbrev pub TestedAt : Bool → ℕ → ℕ → Bool → Type 0
+abbrev pub Tested : Bool → ℕ → ℕ → Bool → Type 0
+Tested m k l r = MatchBool r ((m ≡ true) × (k ≡ 0)) (k ≡ (if m then 1 else 0) + l)
+
+-- what that says of the walk
+abbrev TestedAt : Bool → ℕ → ℕ → Bool → Type 0
 TestedAt m k l r =
     (e : Datum) (below : ℕ → Sought)
     → MatchBool r
     (at_root m e below k ≡ Found (record { hole = Top; datum = e }))
     (at_root m e below k ≡ below l)
+
+tested_at : (m : Bool) (k l : ℕ) (r : Bool) → Tested m k l r → TestedAt m k l r
+tested_at m k l true h e below = first_at_root m k h.0 h.1 e below
+tested_at false k l false h e below =
+    let passed : k ≡ 0 + l = h in
+    let same : k ≡ l = omega (arith, passed) in
+    ap below same
+tested_at true k l false h e below =
+    let passed : k ≡ 1 + l = h in
+    passed_at_root true k l refl (omega (arith, passed)) e below
 
 took_top : (e held : Datum) (l : ℕ)
     → Takes (Found (record { hole = Top; datum = e })) e held true l held e
@@ -79,15 +90,15 @@ as_root : (f : Form) (e : Datum) (m : Bool) (k : ℕ) → m ≡ is_one f e
 as_root f e m k is = by_root f e k ∙ ap (λ (t : Bool). at_root t e (below f e) k) (sym is)
 
 pub is_below : (f : Form) (e : Datum) (k l : ℕ) {m r : Bool} → m ≡ is_one f e
-    → TestedAt m k l r
+    → Tested m k l r
     → r ≡ false
     → sought f e k ≡ below f e l
 is_below f e k l {m} {r} is h z =
-    as_root f e m k is ∙ subst (TestedAt m k l) z h e (below f e)
+    as_root f e m k is ∙ subst (TestedAt m k l) z (tested_at m k l r h) e (below f e)
 
 -- it is the expression itself
 pub took_all : (f : Form) (k l : ℕ) {e held all now : Datum} {m r : Bool} → m ≡ is_one f e
-    → TestedAt m k l r
+    → Tested m k l r
     → r ≡ true
     → all ≡ held
     → now ≡ e
@@ -96,7 +107,7 @@ took_all f k l {e} {held} {all} {now} {m} {r} is h z a b =
     subst (λ (x : Datum). Takes (sought f e k) e held true l x now) (sym a)
     (subst (λ (y : Datum). Takes (sought f e k) e held true l held y) (sym b)
     (subst (λ (x : Sought). Takes x e held true l held e)
-    (sym (as_root f e m k is ∙ subst (TestedAt m k l) z h e (below f e))) (took_top e held l)))
+    (sym (as_root f e m k is ∙ subst (TestedAt m k l) z (tested_at m k l r h) e (below f e))) (took_top e held l)))
 
 -- there is none below
 pub found_none : (f : Form) (e held : Datum) (k l : ℕ) → below f e l ≡ Left l

@@ -1,10 +1,8 @@
 //! A part of an expression, taken out of it.
-ghost use Rattle.std.specs.Prelude.{◌≡◌, ℕ, IfOk, MatchBool};
-ghost use Rattle.exo_tree.specs.Tree.{Datum};
+ghost use Rattle.std.specs.Prelude.{◌≡◌, IfOk};
 ghost use Rattle.exo_tree.specs.PlainDatum.{datum};
-ghost use Rattle.buffer_laws.specs.Bound.{Top};
 ghost use Rattle.alloc_laws.specs.Bind.Binding as plain;
-ghost use Rattle.alloc_laws.specs.Bind.Binding.{Sought, Found, at_root, sought, part_found};
+ghost use Rattle.alloc_laws.specs.Bind.Binding.{sought, part_found};
 ghost use Rattle.step_driver.specs.Needs.Outcomes.{Tries};
 ghost use Rattle.step_rules.specs.Shapes.{tried};
 ghost use Rattle.buffer_rewrites.specs.PlainForm.{plain_form};
@@ -15,6 +13,7 @@ use cursor_forward::StepError;
 use exo_tree::{DataExpr, Id, Indices};
 use std::alloc::{AllocError, Global};
 use std::mem;
+use step_targets::is_here;
 
 /// What is looked for in an expression.
 #[derive(Clone, Copy)]
@@ -82,23 +81,6 @@ impl Form {
             DataExpr::Select(_, _, _, _) => false,
         }
     }
-}
-
-/// Whether a match is the one that is looked for: `left` says how many are to be passed over.
-#[tactic(auto, using(crate::proofs::Taken::none_at_root, crate::proofs::Taken::first_at_root, crate::proofs::Taken::passed_at_root))]
-fn is_here(is_match: bool, left: &mut u32) -> bool
-    ensures { (e : Datum) (below : ℕ → Sought) → MatchBool result (at_root is_match e below left.old
-        ≡ Found (record { hole = Top; datum = e })) (at_root is_match e below left.old ≡ below
-        left.new) }
-{
-    if !is_match {
-        return false;
-    }
-    if *left == 0 {
-        return true;
-    }
-    *left -= 1;
-    false
 }
 
 /// Exchanges the part behind the first `left` ones in preorder for what is held, and says whether

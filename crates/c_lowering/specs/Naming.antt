@@ -6,10 +6,10 @@ use Rattle.c_tree.specs.CTree.{Number64, Literal}
 use Rattle.c_lowering.specs.Made.Lowered as lowered
 use Rattle.c_lowering.specs.Made.Lowered.{Naming, number_with}
 use Rattle.c_lowering.specs.Made.LoweredUnit.{naming_in}
-use Rattle.c_lowering.specs.declared.names.Names.{Names}
+use Rattle.c_lowering.specs.declared.names.CNames.{CNames}
 use Rattle.c_lowering.specs.declared.names.Memory.{Memory}
 
-abbrev pub naming_of : Names → Naming
+abbrev pub naming_of : CNames → Naming
 naming_of names = naming_in (program names.unit.now) names.binders.now
 
 -- the C of a dimension, which holds no stride

@@ -9,7 +9,7 @@ ghost use Rattle.c_lowering.specs.Made.Lowered.{element_of};
 ghost use Rattle.c_lowering.specs.Naming.{naming_of, memory_in};
 ghost use Rattle.c_lowering.specs.Heads.{is_on_stack, allocated_as, buffer_of};
 
-use crate::names::{Memory, Names};
+use crate::names::{CNames, Memory};
 use crate::numbers::{lower_product, own};
 use c_tree::tree::{CElement, CStatement};
 use exo_tree::{Binder, Cell, Ctrl, Indices, MemId};
@@ -88,7 +88,7 @@ pub(crate) fn is_on_stack(memory: Memory<'_>, dims: &Indices) -> bool
 /// The C of an allocation: an array on the stack, or one by `malloc`.
 fn lower_buffer(
     alloc: Global,
-    names: &Names<'_>,
+    names: &CNames<'_>,
     x: &Binder,
     element: CElement,
     dims: &[Ctrl],
@@ -110,7 +110,7 @@ fn lower_buffer(
 /// The C of an allocation in a memory.
 pub(crate) fn lower_alloc(
     alloc: Global,
-    names: &Names<'_>,
+    names: &CNames<'_>,
     x: &Binder,
     cell: Cell,
     dims: &Indices,

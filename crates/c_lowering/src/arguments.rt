@@ -16,7 +16,7 @@ ghost use Rattle.c_lowering.specs.Naming.{naming_of};
 ghost use Rattle.c_lowering.specs.Whole.{whole_of};
 
 use crate::expressions::{lower_cell, lower_test};
-use crate::names::Names;
+use crate::names::CNames;
 use crate::numbers::{lower_number, lower_stride};
 use crate::scope::{Entry, Form, find, stride_count};
 use c_tree::tree::{CActual, CCell, CNumber, CStruct, CWindow};
@@ -26,7 +26,7 @@ use std::alloc::{AllocError, Global};
 /// The strides of a name, of its dimensions in order.
 fn lower_strides(
     alloc: Global,
-    names: &Names<'_>,
+    names: &CNames<'_>,
     scope: &[Entry],
     x: Id,
 ) -> Result<Vec<CNumber>, AllocError>
@@ -52,7 +52,7 @@ fn has_stride(c: &Coord, k: usize, count: usize) -> bool
 /// Appends the stride of a dimension, where its coordinate is a span.
 fn put_stride(
     alloc: Global,
-    names: &Names<'_>,
+    names: &CNames<'_>,
     scope: &[Entry],
     x: Id,
     c: &Coord,
@@ -88,7 +88,7 @@ pub(crate) fn span_count(scope: &[Entry], x: Id, coords: &[Coord]) -> usize
 /// The strides of a name at the spans of a window.
 fn span_strides(
     alloc: Global,
-    names: &Names<'_>,
+    names: &CNames<'_>,
     scope: &[Entry],
     x: Id,
     coords: &[Coord],
@@ -140,7 +140,7 @@ fn zero_indices(alloc: Global, count: usize) -> Result<Indices, AllocError>
 /// The first cell of a name.
 pub(crate) fn first_of_whole(
     alloc: Global,
-    names: &Names<'_>,
+    names: &CNames<'_>,
     scope: &[Entry],
     x: Id,
 ) -> Result<CCell, AllocError>
@@ -157,7 +157,7 @@ pub(crate) fn first_of_whole(
 /// The first cell of a window of a name.
 pub(crate) fn first_of_window(
     alloc: Global,
-    names: &Names<'_>,
+    names: &CNames<'_>,
     scope: &[Entry],
     x: Id,
     coords: &Coords,
@@ -189,7 +189,7 @@ fn window_from(cell: Cell, first: CCell, strides: Vec<CNumber>) -> CWindow
 /// The C of a window of a name, over cells of that type.
 pub(crate) fn lower_window(
     alloc: Global,
-    names: &Names<'_>,
+    names: &CNames<'_>,
     scope: &[Entry],
     x: Id,
     cell: Cell,
@@ -205,7 +205,7 @@ pub(crate) fn lower_window(
 /// The C of a whole buffer as a window.
 fn window_of_whole(
     alloc: Global,
-    names: &Names<'_>,
+    names: &CNames<'_>,
     scope: &[Entry],
     x: Id,
     cell: Cell,
@@ -218,7 +218,7 @@ fn window_of_whole(
 }
 
 /// A name as an argument.
-fn alone(alloc: Global, names: &Names<'_>, x: Id) -> Result<CActual, AllocError>
+fn alone(alloc: Global, names: &CNames<'_>, x: Id) -> Result<CActual, AllocError>
     ensures { IfOk result (λ a. plain_actual a ≡ Alone ((naming_of names.now).binder x.0)) }
 {
     Ok(CActual::Alone(names.binder(alloc, x)?))
@@ -227,7 +227,7 @@ fn alone(alloc: Global, names: &Names<'_>, x: Id) -> Result<CActual, AllocError>
 /// A whole name for a window: a window by its name, a buffer as a window of all its cells.
 fn whole_for_window(
     alloc: Global,
-    names: &Names<'_>,
+    names: &CNames<'_>,
     scope: &[Entry],
     x: Id,
     cell: Cell,
@@ -243,7 +243,7 @@ fn whole_for_window(
 /// A whole name for a buffer of these dimensions: one cell by its address, more by the name.
 fn whole_for_tensor(
     alloc: Global,
-    names: &Names<'_>,
+    names: &CNames<'_>,
     scope: &[Entry],
     x: Id,
     dims: &Indices,
@@ -260,7 +260,7 @@ fn whole_for_tensor(
 /// A whole name, by the parameter that it is for.
 fn lower_whole(
     alloc: Global,
-    names: &Names<'_>,
+    names: &CNames<'_>,
     scope: &[Entry],
     kind: &ParamKind,
     x: Id,
@@ -280,7 +280,7 @@ fn lower_whole(
 /// A window of a name, by the parameter that it is for.
 fn lower_part(
     alloc: Global,
-    names: &Names<'_>,
+    names: &CNames<'_>,
     scope: &[Entry],
     kind: &ParamKind,
     x: Id,
@@ -305,7 +305,7 @@ fn lower_part(
 /// The C of an argument, by the parameter that it is for.
 pub(crate) fn lower_actual(
     alloc: Global,
-    names: &Names<'_>,
+    names: &CNames<'_>,
     scope: &[Entry],
     kind: &ParamKind,
     a: &Arg,
@@ -326,7 +326,7 @@ pub(crate) fn lower_actual(
 /// The C of arguments, each by its parameter; of more than there are of the other the rest is left out.
 pub(crate) fn lower_actuals(
     alloc: Global,
-    names: &Names<'_>,
+    names: &CNames<'_>,
     scope: &[Entry],
     params: &[Param],
     args: &[Arg],

@@ -22,7 +22,7 @@ use crate::allocations::{is_on_stack, lower_alloc};
 use crate::arguments::{lower_actual, lower_window, span_count};
 use crate::calls::lower_call;
 use crate::expressions::{lower_cell, lower_data, lower_sides, lower_test};
-use crate::names::Names;
+use crate::names::CNames;
 use crate::scope::{Entry, Form, buffer_cell, enter};
 use c_tree::tree::{CBlock, CCell, CData, CStatement};
 use exo_tree::{
@@ -34,7 +34,7 @@ use std::alloc::{AllocError, Global};
 /// The C of a store: the type, the cell and the number.
 fn lower_store(
     alloc: Global,
-    names: &Names<'_>,
+    names: &CNames<'_>,
     scope: &[Entry],
     x: Id,
     is: &Indices,
@@ -53,7 +53,7 @@ fn lower_store(
 #[cycle(lower)]
 fn lower_branch(
     alloc: Global,
-    names: &Names<'_>,
+    names: &CNames<'_>,
     scope: &mut Vec<Entry>,
     c: &Cond,
     a: &Block,
@@ -75,7 +75,7 @@ fn lower_branch(
 #[cycle(lower)]
 fn lower_body(
     alloc: Global,
-    names: &Names<'_>,
+    names: &CNames<'_>,
     scope: &mut Vec<Entry>,
     i: Id,
     body: &Block,
@@ -97,7 +97,7 @@ fn lower_body(
 #[cycle(lower)]
 fn lower_loop(
     alloc: Global,
-    names: &Names<'_>,
+    names: &CNames<'_>,
     scope: &mut Vec<Entry>,
     i: &Binder,
     lo: &Ctrl,
@@ -119,7 +119,7 @@ fn lower_loop(
 /// The C of a configuration write.
 fn lower_config(
     alloc: Global,
-    names: &Names<'_>,
+    names: &CNames<'_>,
     scope: &[Entry],
     f: FieldId,
     a: &Arg,
@@ -135,7 +135,7 @@ fn lower_config(
 /// The C of a view.
 fn lower_view(
     alloc: Global,
-    names: &Names<'_>,
+    names: &CNames<'_>,
     scope: &[Entry],
     w: &Binder,
     x: Id,
@@ -155,7 +155,7 @@ fn lower_view(
 #[cycle(lower)]
 fn lower_statement(
     alloc: Global,
-    names: &Names<'_>,
+    names: &CNames<'_>,
     scope: &mut Vec<Entry>,
     s: &Stmt,
 ) -> Result<CStatement, AllocError>
@@ -184,7 +184,7 @@ fn lower_statement(
 /// The buffers of a block are freed, the last first.
 fn put_frees(
     alloc: Global,
-    names: &Names<'_>,
+    names: &CNames<'_>,
     made: &mut CBlock,
     buffers: &[Id],
 ) -> Result<(), AllocError>
@@ -201,7 +201,7 @@ fn put_frees(
 /// A buffer comes into scope, and is one of those to free where it is on the heap.
 fn open_buffer(
     alloc: Global,
-    names: &Names<'_>,
+    names: &CNames<'_>,
     x: Id,
     cell: Cell,
     dims: &Indices,
@@ -230,7 +230,7 @@ fn open_buffer(
 
 /// A view comes into scope.
 fn open_view(
-    names: &Names<'_>,
+    names: &CNames<'_>,
     w: Id,
     x: Id,
     coords: &Coords,
@@ -254,7 +254,7 @@ fn open_view(
 /// What a statement binds comes into scope, and is one of those to free where it is a buffer on the heap.
 fn open(
     alloc: Global,
-    names: &Names<'_>,
+    names: &CNames<'_>,
     s: &Stmt,
     scope: &mut Vec<Entry>,
     buffers: &mut Vec<Id>,
@@ -280,7 +280,7 @@ fn open(
 #[cycle(lower)]
 pub fn lower_block(
     alloc: Global,
-    names: &Names<'_>,
+    names: &CNames<'_>,
     scope: &mut Vec<Entry>,
     b: &Block,
 ) -> Result<CBlock, AllocError>

@@ -13,7 +13,7 @@ ghost use Rattle.c_lowering.specs.Naming.{naming_of};
 ghost use Rattle.c_lowering.specs.PlainHole.{plain_hole};
 
 use crate::arguments::{first_of_whole, first_of_window, lower_actual, lower_actuals};
-use crate::names::Names;
+use crate::names::CNames;
 use crate::numbers::boxed_literal;
 use crate::scope::Entry;
 use crate::templates::{Hole, holes_of, is_hole_of};
@@ -24,7 +24,7 @@ use std::alloc::{AllocError, Global};
 /// The first cell of an argument; of a control value the first of an array without a name.
 fn first_cell(
     alloc: Global,
-    names: &Names<'_>,
+    names: &CNames<'_>,
     scope: &[Entry],
     a: &Arg,
 ) -> Result<CCell, AllocError>
@@ -47,7 +47,7 @@ fn first_cell(
 /// What stands for a parameter in a template: the text of a control value, or a buffer's first cell.
 fn piece_for(
     alloc: Global,
-    names: &Names<'_>,
+    names: &CNames<'_>,
     scope: &[Entry],
     kind: &ParamKind,
     a: &Arg,
@@ -66,7 +66,7 @@ fn piece_for(
 /// What stands for a name in braces: the argument of the first parameter that it means; nothing where it means none.
 fn piece_named(
     alloc: Global,
-    names: &Names<'_>,
+    names: &CNames<'_>,
     scope: &[Entry],
     params: &[Param],
     args: &[Arg],
@@ -88,7 +88,7 @@ fn piece_named(
 /// What stands for a part of a template.
 fn piece_of(
     alloc: Global,
-    names: &Names<'_>,
+    names: &CNames<'_>,
     scope: &[Entry],
     params: &[Param],
     args: &[Arg],
@@ -108,7 +108,7 @@ fn piece_of(
 /// What stands for the parts of a template.
 fn pieces_of(
     alloc: Global,
-    names: &Names<'_>,
+    names: &CNames<'_>,
     scope: &[Entry],
     params: &[Param],
     args: &[Arg],
@@ -130,7 +130,7 @@ fn pieces_of(
 /// The pieces of an instruction's line.
 fn lower_template(
     alloc: Global,
-    names: &Names<'_>,
+    names: &CNames<'_>,
     scope: &[Entry],
     params: &[Param],
     args: &[Arg],
@@ -150,7 +150,7 @@ fn lower_template(
 /// The C of a call of a function.
 fn call_by_name(
     alloc: Global,
-    names: &Names<'_>,
+    names: &CNames<'_>,
     scope: &[Entry],
     p: &Proc,
     args: &Args,
@@ -168,7 +168,7 @@ fn call_by_name(
 /// The C of an instruction.
 fn call_by_template(
     alloc: Global,
-    names: &Names<'_>,
+    names: &CNames<'_>,
     scope: &[Entry],
     k: ProcId,
     p: &Proc,
@@ -197,7 +197,7 @@ fn call_by_template(
 /// The C of a call of a procedure.
 fn lower_call_of(
     alloc: Global,
-    names: &Names<'_>,
+    names: &CNames<'_>,
     scope: &[Entry],
     k: ProcId,
     p: &Proc,
@@ -235,7 +235,7 @@ fn call_of_none(alloc: Global) -> CStatement
 /// The C of a call.
 pub(crate) fn lower_call(
     alloc: Global,
-    names: &Names<'_>,
+    names: &CNames<'_>,
     scope: &[Entry],
     k: ProcId,
     args: &Args,

@@ -9,7 +9,7 @@ ghost use Rattle.c_lowering.specs.Scope.{forms_in};
 ghost use Rattle.c_lowering.specs.Naming.{naming_of};
 ghost use Rattle.c_lowering.specs.Operations.{data_of_one, data_of_two, compared, connected};
 
-use crate::names::Names;
+use crate::names::CNames;
 use crate::numbers::{boxed_literal, lower_number, lower_offset, lower_steps};
 use crate::scope::{Entry, Form, find};
 use c_tree::tree::{CCell, CData, CHolder, CNumber, CTest};
@@ -19,7 +19,7 @@ use std::alloc::{AllocError, Global};
 /// The C of a comparison's sides, or of a loop's bounds.
 pub(crate) fn lower_sides(
     alloc: Global,
-    names: &Names<'_>,
+    names: &CNames<'_>,
     scope: &[Entry],
     a: &Ctrl,
     b: &Ctrl,
@@ -33,14 +33,14 @@ pub(crate) fn lower_sides(
 }
 
 /// Whether a control name holds another number than 0.
-fn binder_test(alloc: Global, names: &Names<'_>, x: Id) -> Result<CTest, AllocError>
+fn binder_test(alloc: Global, names: &CNames<'_>, x: Id) -> Result<CTest, AllocError>
     ensures { IfOk result (λ t. plain_test t ≡ IsSet ((naming_of names.now).binder x.0)) }
 {
     Ok(CTest::IsSet(names.binder(alloc, x)?))
 }
 
 /// Whether a configuration field holds another number than 0.
-fn field_test(alloc: Global, names: &Names<'_>, f: FieldId) -> Result<CTest, AllocError>
+fn field_test(alloc: Global, names: &CNames<'_>, f: FieldId) -> Result<CTest, AllocError>
     ensures { IfOk result (λ t. plain_test t ≡ IsSet ((naming_of names.now).field f.0)) }
 {
     Ok(CTest::IsSet(names.field(alloc, f)?))
@@ -71,7 +71,12 @@ fn connected(c: &Cond, left: Box<CTest>, right: Box<CTest>) -> CTest
 
 /// The outermost form of the C of a condition.
 #[cycle(lower_test)]
-fn test_of(alloc: Global, names: &Names<'_>, scope: &[Entry], c: &Cond) -> Result<CTest, AllocError>
+fn test_of(
+    alloc: Global,
+    names: &CNames<'_>,
+    scope: &[Entry],
+    c: &Cond,
+) -> Result<CTest, AllocError>
     ensures { IfOk result (λ t. plain_test t ≡ test_of (naming_of names.now) (forms_in scope.now) (condition c.now)) }
 {
     match c {
@@ -95,7 +100,7 @@ fn test_of(alloc: Global, names: &Names<'_>, scope: &[Entry], c: &Cond) -> Resul
 #[cycle(lower_test)]
 pub(crate) fn lower_test(
     alloc: Global,
-    names: &Names<'_>,
+    names: &CNames<'_>,
     scope: &[Entry],
     c: &Cond,
 ) -> Result<Box<CTest>, AllocError>
@@ -108,7 +113,7 @@ pub(crate) fn lower_test(
 /// The cell of an array or a window at an offset.
 fn cell_at(
     alloc: Global,
-    names: &Names<'_>,
+    names: &CNames<'_>,
     holder: CHolder,
     x: Id,
     offset: Box<CNumber>,
@@ -123,7 +128,7 @@ fn cell_at(
 }
 
 /// The first cell of an array.
-fn first_cell(alloc: Global, names: &Names<'_>, x: Id) -> Result<CCell, AllocError>
+fn first_cell(alloc: Global, names: &CNames<'_>, x: Id) -> Result<CCell, AllocError>
     ensures { IfOk result (λ c. plain_cell c ≡ InArray ((naming_of names.now).binder x.0) (Literal (pos 0))) }
 {
     let offset = boxed_literal(alloc, 0)?;
@@ -133,7 +138,7 @@ fn first_cell(alloc: Global, names: &Names<'_>, x: Id) -> Result<CCell, AllocErr
 /// The C of a cell; of what is no buffer the first.
 pub(crate) fn lower_cell(
     alloc: Global,
-    names: &Names<'_>,
+    names: &CNames<'_>,
     scope: &[Entry],
     x: Id,
     is: &Indices,
@@ -179,7 +184,7 @@ fn of_two(e: &DataExpr, left: Box<CData>, right: Box<CData>) -> CData
 #[cycle(data)]
 fn data_of(
     alloc: Global,
-    names: &Names<'_>,
+    names: &CNames<'_>,
     scope: &[Entry],
     e: &DataExpr,
 ) -> Result<CData, AllocError>
@@ -211,7 +216,7 @@ fn data_of(
 #[cycle(data)]
 pub(crate) fn lower_data(
     alloc: Global,
-    names: &Names<'_>,
+    names: &CNames<'_>,
     scope: &[Entry],
     e: &DataExpr,
 ) -> Result<Box<CData>, AllocError>

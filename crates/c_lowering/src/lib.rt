@@ -14,5 +14,5 @@ mod scope;
 mod templates;
 
 pub use blocks::lower_block;
-pub use names::{Names, field_name};
+pub use names::{CNames, field_name};
 pub use scope::{Entry, Form, enter};

@@ -10,12 +10,12 @@ use std::alloc::{AllocError, Global};
 
 /// What names stand for in the C of a procedure.
 #[derive(Clone, Copy)]
-pub struct Names<'a> {
+pub struct CNames<'a> {
     pub unit: &'a Unit,
     pub binders: &'a NameTable,
 }
 
-impl Names<'_> {
+impl CNames<'_> {
     /// The C name of a binder; empty where the procedure has none of that number.
     pub fn binder(&self, alloc: Global, x: Id) -> Result<String, AllocError>
         ensures { IfOk result (λ s. string_bytes s ≡ (naming_of self.now).binder x.0) }
@@ -42,7 +42,7 @@ pub(crate) struct Memory<'a> {
     pub(crate) stack: bool,
 }
 
-impl Names<'_> {
+impl CNames<'_> {
     /// What is said of a memory; of one that the unit has not, that it has cells on the heap.
     pub(crate) fn memory(&self, m: MemId) -> Memory<'_>
         ensures { memory_in result ≡ (naming_of self.now).memory m.0 }

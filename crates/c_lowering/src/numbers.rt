@@ -13,7 +13,7 @@ ghost use Rattle.c_lowering.specs.Naming.{naming_of, extent_of};
 ghost use Rattle.c_lowering.specs.Behind.{offset_behind};
 ghost use Rattle.c_lowering.specs.Operations.{of_one, of_two};
 
-use crate::names::Names;
+use crate::names::CNames;
 use crate::scope::{Entry, Form, find};
 use c_tree::tree::CNumber;
 use exo_tree::{Ctrl, FieldId, Id, Indices};
@@ -27,14 +27,14 @@ pub(crate) fn boxed_literal(alloc: Global, n: i64) -> Result<Box<CNumber>, Alloc
 }
 
 /// The number that a control name holds.
-fn binder_number(alloc: Global, names: &Names<'_>, x: Id) -> Result<CNumber, AllocError>
+fn binder_number(alloc: Global, names: &CNames<'_>, x: Id) -> Result<CNumber, AllocError>
     ensures { IfOk result (λ n. plain_number n ≡ Named ((naming_of names.now).binder x.0)) }
 {
     Ok(CNumber::Named(names.binder(alloc, x)?))
 }
 
 /// The number that a configuration field holds.
-fn field_number(alloc: Global, names: &Names<'_>, f: FieldId) -> Result<CNumber, AllocError>
+fn field_number(alloc: Global, names: &CNames<'_>, f: FieldId) -> Result<CNumber, AllocError>
     ensures { IfOk result (λ n. plain_number n ≡ Named ((naming_of names.now).field f.0)) }
 {
     Ok(CNumber::Named(names.field(alloc, f)?))
@@ -64,7 +64,7 @@ fn of_two(e: &Ctrl, left: Box<CNumber>, right: Box<CNumber>) -> CNumber
 
 /// The outermost form of the C of a dimension.
 #[cycle(extent)]
-fn extent_of(alloc: Global, names: &Names<'_>, e: &Ctrl) -> Result<CNumber, AllocError>
+fn extent_of(alloc: Global, names: &CNames<'_>, e: &Ctrl) -> Result<CNumber, AllocError>
     ensures { IfOk result (λ n. plain_number n ≡ extent_of (naming_of names.now) (control e.now)) }
 {
     match e {
@@ -86,7 +86,7 @@ fn extent_of(alloc: Global, names: &Names<'_>, e: &Ctrl) -> Result<CNumber, Allo
 
 /// The C of a dimension, which holds no stride.
 #[cycle(extent)]
-fn lower_extent(alloc: Global, names: &Names<'_>, e: &Ctrl) -> Result<Box<CNumber>, AllocError>
+fn lower_extent(alloc: Global, names: &CNames<'_>, e: &Ctrl) -> Result<Box<CNumber>, AllocError>
     ensures { IfOk result (λ n. plain_number n.value ≡ extent_of (naming_of names.now) (control e.now)) }
 {
     let extent = extent_of(alloc, names, e)?;
@@ -96,7 +96,7 @@ fn lower_extent(alloc: Global, names: &Names<'_>, e: &Ctrl) -> Result<Box<CNumbe
 /// The product of a number and dimensions, each multiplied on the right.
 fn times_extents(
     alloc: Global,
-    names: &Names<'_>,
+    names: &CNames<'_>,
     product: Box<CNumber>,
     dims: &[Ctrl],
 ) -> Result<Box<CNumber>, AllocError>
@@ -117,7 +117,7 @@ fn times_extents(
 /// The product of dimensions; 1 where there is none.
 pub(crate) fn lower_product(
     alloc: Global,
-    names: &Names<'_>,
+    names: &CNames<'_>,
     dims: &[Ctrl],
 ) -> Result<Box<CNumber>, AllocError>
     ensures { IfOk result (λ n. plain_number n.value ≡ product_of (dims_of (naming_of names.now) (map control dims.now))) }
@@ -143,7 +143,7 @@ fn later(dims: &[Ctrl], k: usize) -> &[Ctrl]
 /// The stride of a dimension of a buffer of these dimensions: the product of the later ones.
 fn dense_stride(
     alloc: Global,
-    names: &Names<'_>,
+    names: &CNames<'_>,
     dims: &Indices,
     k: usize,
 ) -> Result<CNumber, AllocError>
@@ -155,7 +155,7 @@ fn dense_stride(
 }
 
 /// The stride of a dimension of a window, as its struct has it.
-fn stride_in(alloc: Global, names: &Names<'_>, w: Id, k: usize) -> Result<CNumber, AllocError>
+fn stride_in(alloc: Global, names: &CNames<'_>, w: Id, k: usize) -> Result<CNumber, AllocError>
     ensures { IfOk result (λ n. plain_number n ≡ StrideIn ((naming_of names.now).binder w.0) k) }
 {
     Ok(CNumber::Stride(names.binder(alloc, w)?, k))
@@ -164,7 +164,7 @@ fn stride_in(alloc: Global, names: &Names<'_>, w: Id, k: usize) -> Result<CNumbe
 /// The stride of a dimension of a window of so many; 1 where it has no such dimension.
 fn window_stride(
     alloc: Global,
-    names: &Names<'_>,
+    names: &CNames<'_>,
     w: Id,
     k: usize,
     rank: usize,
@@ -181,7 +181,7 @@ fn window_stride(
 /// The stride of a dimension of a name; 1 for what has no such dimension.
 pub(crate) fn lower_stride(
     alloc: Global,
-    names: &Names<'_>,
+    names: &CNames<'_>,
     scope: &[Entry],
     x: Id,
     k: usize,
@@ -206,7 +206,7 @@ pub(crate) fn lower_stride(
 #[cycle(number)]
 fn number_of(
     alloc: Global,
-    names: &Names<'_>,
+    names: &CNames<'_>,
     scope: &[Entry],
     e: &Ctrl,
 ) -> Result<CNumber, AllocError>
@@ -233,7 +233,7 @@ fn number_of(
 #[cycle(number)]
 pub(crate) fn lower_number(
     alloc: Global,
-    names: &Names<'_>,
+    names: &CNames<'_>,
     scope: &[Entry],
     e: &Ctrl,
 ) -> Result<Box<CNumber>, AllocError>
@@ -246,7 +246,7 @@ pub(crate) fn lower_number(
 /// The offset by one index more: `((at * d) + i)`.
 fn next_row(
     alloc: Global,
-    names: &Names<'_>,
+    names: &CNames<'_>,
     scope: &[Entry],
     at: Box<CNumber>,
     i: &Ctrl,
@@ -266,7 +266,7 @@ fn next_row(
 /// An offset by the later indices: `((at * d) + e)` and so on.
 fn add_rows(
     alloc: Global,
-    names: &Names<'_>,
+    names: &CNames<'_>,
     scope: &[Entry],
     at: Box<CNumber>,
     is: &[Ctrl],
@@ -292,7 +292,7 @@ fn add_rows(
 /// The offset of a cell by its indices and the dimensions behind the first.
 fn rows_offset(
     alloc: Global,
-    names: &Names<'_>,
+    names: &CNames<'_>,
     scope: &[Entry],
     is: &[Ctrl],
     rest: &[Ctrl],
@@ -333,7 +333,7 @@ pub(crate) fn own(list: &[Ctrl], lanes: u32) -> &[Ctrl]
 /// The offset of a cell, or of a vector where there are lanes, in a dense, row-major buffer of these dimensions.
 pub(crate) fn lower_offset(
     alloc: Global,
-    names: &Names<'_>,
+    names: &CNames<'_>,
     scope: &[Entry],
     is: &Indices,
     dims: &Indices,
@@ -354,7 +354,7 @@ pub(crate) fn lower_offset(
 /// What an index of a window counts: `(i * w.strides[k])`.
 fn lower_step(
     alloc: Global,
-    names: &Names<'_>,
+    names: &CNames<'_>,
     scope: &[Entry],
     i: &Ctrl,
     w: Id,
@@ -373,7 +373,7 @@ fn lower_step(
 /// The offset in a window by one index more.
 fn next_step(
     alloc: Global,
-    names: &Names<'_>,
+    names: &CNames<'_>,
     scope: &[Entry],
     at: Box<CNumber>,
     i: &Ctrl,
@@ -393,7 +393,7 @@ fn next_step(
 /// An offset in a window of so many dimensions by the indices from that dimension on.
 fn add_steps(
     alloc: Global,
-    names: &Names<'_>,
+    names: &CNames<'_>,
     scope: &[Entry],
     at: Box<CNumber>,
     is: &[Ctrl],
@@ -421,7 +421,7 @@ fn add_steps(
 /// The offset of a cell in a window of so many dimensions.
 pub(crate) fn lower_steps(
     alloc: Global,
-    names: &Names<'_>,
+    names: &CNames<'_>,
     scope: &[Entry],
     is: &[Ctrl],
     w: Id,

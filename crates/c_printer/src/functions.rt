@@ -14,7 +14,7 @@ ghost use Rattle.c_lowering.specs.Scope.{form_of, forms_in};
 ghost use Rattle.c_lowering.specs.Naming.{naming_of};
 
 use crate::report::Printed;
-use c_lowering::{Entry, Form, Names, enter, lower_block};
+use c_lowering::{CNames, Entry, Form, enter, lower_block};
 use c_tree::names::{Globals, NameTable};
 use c_tree::tree::{CBlock, CFunction, CParam, CStruct};
 use exo_tree::{Name, Param, ParamKind, Proc, ProcId, Unit};
@@ -40,7 +40,7 @@ fn lower_param(p: &Param, name: String) -> CParam
 /// The C of parameters.
 fn lower_params(
     alloc: Global,
-    names: &Names<'_>,
+    names: &CNames<'_>,
     params: &[Param],
 ) -> Result<Vec<CParam>, AllocError>
     ensures { IfOk result (λ v. map plain_param v.items ≡ formals_of (naming_of names.now) (map parameter params.now)) }
@@ -78,7 +78,7 @@ fn param_scope(alloc: Global, params: &[Param]) -> Result<Vec<Entry>, AllocError
 }
 
 /// The C of a procedure's body.
-fn lower_body(alloc: Global, names: &Names<'_>, p: &Proc) -> Result<CBlock, AllocError>
+fn lower_body(alloc: Global, names: &CNames<'_>, p: &Proc) -> Result<CBlock, AllocError>
     ensures { IfOk result (λ c. cblock c ≡ block_of (naming_of names.now) (param_forms (procedure p.now).params) (procedure p.now).body) }
 {
     let mut scope = param_scope(alloc, p.params.as_slice())?;
@@ -96,7 +96,7 @@ fn lower_function(
     ensures { IfOk result (λ f. plain_function f ≡ function_at (program unit.now) globals.now (Some (procedure p.now))) }
 {
     let binders = NameTable::new(alloc, globals, p)?;
-    let names = Names {
+    let names = CNames {
         unit,
         binders: &binders,
     };

@@ -10,11 +10,11 @@ use std::marker::Model;
 
 /// The greatest magnitude that is given to each parameter of one procedure.
 #[derive(Drop)]
-struct Row {
+struct GivenRow {
     most: Vec<u64>,
 }
 
-impl Model for Row {
+impl Model for GivenRow {
     ghost use Rattle.std.specs.Prelude.{List, ℕ};
     ghost use Rattle.exo_tree.specs.Codes.{name_code};
 
@@ -25,13 +25,13 @@ impl Model for Row {
     ghost view = { λ r. r.most.items };
 }
 
-impl Row {
+impl GivenRow {
     /// Nothing given to so many parameters.
-    fn new(alloc: Global, count: usize) -> Result<Row, AllocError>
+    fn new(alloc: Global, count: usize) -> Result<GivenRow, AllocError>
         ensures { IfOk result (λ r. r ≡ replicate count 0) }
     {
         let most = vec![in alloc; 0; count]?;
-        Ok(Row { most })
+        Ok(GivenRow { most })
     }
 
     /// Gives at most `m` more to the parameter at the place `i`.
@@ -57,7 +57,7 @@ impl Row {
 /// The greatest magnitude that calls give to each parameter of each procedure of a unit.
 #[derive(Drop)]
 pub(crate) struct Given {
-    rows: Vec<Row>,
+    rows: Vec<GivenRow>,
 }
 
 impl Model for Given {
@@ -88,7 +88,7 @@ impl Given {
     {
         let mut rows = Vec::new(alloc);
         for p in procs {
-            let row = Row::new(alloc, p.params.len())?;
+            let row = GivenRow::new(alloc, p.params.len())?;
             rows.push(row)?;
         }
         Ok(Given { rows })

@@ -4,7 +4,6 @@ use Rattle.std.specs.Prelude.{Option, Some, None, option_map, option_and_then, s
 use Rattle.exo_tree.specs.Tree.{Block, end, next, Procedure}
 use Rattle.exo_tree.specs.Places.{Path, Opened, opened}
 use Rattle.match_laws.specs.Inline.InlineRule.{Called, called_by, called_in, are_plain_arguments, inline_piece}
-use Rattle.match_laws.specs.Inline.Pieces as pieces
 use Rattle.cursor_forward.specs.Causes.{WrongShape}
 use Rattle.step_rules.specs.Rule.{Tried, Got, Not, Target, Spot, Piece}
 use Rattle.step_rules.specs.Lawful.{old}
@@ -20,15 +19,12 @@ called_alone (next a (next b c)) = refl
 
 -- ---- the piece
 
-abbrev if_plain : Path → Option Called → Option pieces.Piece
+abbrev if_plain : Path → Option Called → Option Piece
 if_plain at o =
     elim o [
       | None ↦ None
       | Some c ↦ if are_plain_arguments c.args then Some (record { path = at; count = 1 }) else None
     ]
-
-abbrev pub as_piece : pieces.Piece → Piece
-as_piece p = record { path = p.path; count = p.count }
 
 abbrev one_at : Path → Piece
 one_at at = record { path = at; count = 1 }
@@ -52,19 +48,19 @@ module _ (t : Target) (at : Path) (p : Piece) (one : p ≡ one_at at) where
   found : (o : Option Called) → o ≡ call_there t p → inline_piece t.proc at ≡ if_plain at o
   found o h = asked ∙ sym (ap (if_plain at) (h ∙ ap (call_there t) one))
 
-  pub no_piece : None ≡ call_there t p → tried (inline_piece t.proc at) as_piece ≡ Not WrongShape
-  no_piece h = ap (λ o. tried o as_piece) (found None h)
+  pub no_piece : None ≡ call_there t p → tried (inline_piece t.proc at) (λ p. p) ≡ Not WrongShape
+  no_piece h = ap (λ o. tried o (λ p. p)) (found None h)
 
   abbrev answer : Bool → Tried Piece
-  answer b = tried (if b then Some (record { path = at; count = 1 }) else None) as_piece
+  answer b = tried (if b then Some (record { path = at; count = 1 }) else None) (λ p. p)
 
   pub not_plain : (c : Called) → Some c ≡ call_there t p → are_plain_arguments c.args ≡ false
-      → tried (inline_piece t.proc at) as_piece ≡ Not WrongShape
-  not_plain c h k = ap (λ o. tried o as_piece) (found (Some c) h) ∙ ap answer k
+      → tried (inline_piece t.proc at) (λ p. p) ≡ Not WrongShape
+  not_plain c h k = ap (λ o. tried o (λ p. p)) (found (Some c) h) ∙ ap answer k
 
   pub one_call : (c : Called) → Some c ≡ call_there t p → are_plain_arguments c.args ≡ true
-      → tried (inline_piece t.proc at) as_piece ≡ Got p
-  one_call c h k = ap (λ o. tried o as_piece) (found (Some c) h) ∙ ap answer k ∙ ap Got (sym one)
+      → tried (inline_piece t.proc at) (λ p. p) ≡ Got p
+  one_call c h k = ap (λ o. tried o (λ p. p)) (found (Some c) h) ∙ ap answer k ∙ ap Got (sym one)
 
 -- ---- what stands for it
 

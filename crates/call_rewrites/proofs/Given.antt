@@ -3,14 +3,14 @@ use Rattle.std.proofs.Common.{◌≡◌, ℕ, ◌==◌, Bool, true, false, cond,
 use Rattle.std.specs.Prelude.{Option, Some, None}
 use Rattle.exo_tree.specs.Tree.{Control, Var, Condition, Flag, Argument, ControlArg, ConditionArg, Whole, Window}
 use Rattle.exo_tree.specs.Tree.{ParamKind, ControlParam, TensorParam, WindowParam, Param, Binder}
+use Rattle.exo_tree.specs.Renaming.{re_param}
 use Rattle.match_laws.specs.Inline.AtOnce.{Put, puts}
-use Rattle.match_laws.specs.Inline.InlineRule.{renumbered_param}
 use Rattle.call_rewrites.specs.Sought.{Number, Truth, Buffer, argument_for}
 use Rattle.call_rewrites.specs.Sought.{number_or, truth_or, buffer_or}
 
 module _ (to : ℕ → ℕ) (y : ℕ) where
   abbrev there : List Param → List Argument → Put
-  there ps args = puts (map (renumbered_param to) ps) args
+  there ps args = puts (map (re_param to) ps) args
 
   -- what is found where one parameter more has an argument that may stand for it
   found : {A : Type 0} (look : Option Argument → A) (b : Bool) (a : Argument) (rest : Option Argument)
@@ -81,7 +81,7 @@ module _ (to : ℕ → ℕ) (y : ℕ) where
 
 module _ (to : ℕ → ℕ) (y z : ℕ) (ps : List Param) (args : List Argument) (same : y ≡ z) where
   abbrev given : Put
-  given = puts (map (renumbered_param to) ps) args
+  given = puts (map (re_param to) ps) args
 
   pub no_number : None ≡ argument_for Number to ps args y → Var y ≡ given.variable z
   no_number h = ap (number_or y) h ∙ numbers to y ps args ∙ ap given.variable same

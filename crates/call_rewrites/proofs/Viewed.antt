@@ -8,7 +8,6 @@ use Rattle.exo_tree.specs.Places.{Path, Opened, opened, first_of}
 use Rattle.inplace_laws.specs.Windows.{in_block as with_window}
 use Rattle.match_laws.specs.Inline.InlineWindowRule.{Viewed, viewed_by, viewed_in, behind_first}
 use Rattle.match_laws.specs.Inline.InlineWindowRule.{window_piece, window_draft, as_window}
-use Rattle.match_laws.specs.Inline.Pieces as pieces
 use Rattle.tree_uses.specs.Uses.{used}
 use Rattle.tree_uses.specs.Putting.{putting, one_window}
 use Rattle.tree_uses.proofs.Window.{putting_window}
@@ -20,7 +19,6 @@ use Rattle.step_driver.specs.Spots.{spot_at}
 use Rattle.step_driver.proofs.Statements.{one_alone}
 use Rattle.call_laws.specs.Calls.InlineWindow.{window_moves}
 use Rattle.call_rewrites.specs.Drafts.{opened_to_end}
-use Rattle.call_rewrites.proofs.Called.{as_piece}
 
 -- ---- the piece
 
@@ -34,18 +32,18 @@ module _ (t : Target) (at : Path) where
   abbrev first : Option Opened
   first = opened 1 at t.proc.body
 
-  abbrev found : Option Viewed → Opened → Option pieces.Piece
+  abbrev found : Option Viewed → Opened → Option Piece
   found v o =
       elim v [
         | None ↦ None
-        | Some v ↦ Some (record { path = at; count = 1 + pieces.statements (rest_of o.around) })
+        | Some v ↦ Some (record { path = at; count = 1 + length (statements (rest_of o.around)) })
       ]
 
-  abbrev asked : Option Opened → Option pieces.Piece
+  abbrev asked : Option Opened → Option Piece
   asked x = elim x [ None ↦ None | Some o ↦ found (viewed_in o.piece) o ]
 
   abbrev all_from : Opened → Piece
-  all_from o = record { path = at; count = 1 + pieces.statements (rest_of o.around) }
+  all_from o = record { path = at; count = 1 + length (statements (rest_of o.around)) }
 
   abbrev to_end : Option Opened → Option Piece
   to_end x = option_map all_from x
@@ -57,25 +55,25 @@ module _ (t : Target) (at : Path) where
   first_statement x = option_and_then (λ (o : Opened). first_of o.piece) x
 
   none_there : (x : Option Opened) → None ≡ first_statement x
-      → tried (asked x) as_piece ≡ Not WrongShape
+      → tried (asked x) (λ p. p) ≡ Not WrongShape
   none_there None h = refl
   none_there (Some o) h = by o.piece h
     where
-      by : (b : Block) → None ≡ first_of b → tried (found (viewed_in b) o) as_piece ≡ Not WrongShape
+      by : (b : Block) → None ≡ first_of b → tried (found (viewed_in b) o) (λ p. p) ≡ Not WrongShape
       by end h = refl
       by (next a b) h = cc
 
   other_there : (x : Option Opened) (a : Statement) → Some a ≡ first_statement x
       → is_some (viewed_by a) ≡ false
-      → tried (asked x) as_piece ≡ Not WrongShape
+      → tried (asked x) (λ p. p) ≡ Not WrongShape
   other_there None a h k = cc
   other_there (Some o) a h k = by o.piece h
     where
-      none : (v : Option Viewed) → is_some v ≡ false → tried (found v o) as_piece ≡ Not WrongShape
+      none : (v : Option Viewed) → is_some v ≡ false → tried (found v o) (λ p. p) ≡ Not WrongShape
       none None h = refl
       none (Some v) h = cc
 
-      by : (b : Block) → Some a ≡ first_of b → tried (found (viewed_in b) o) as_piece ≡ Not WrongShape
+      by : (b : Block) → Some a ≡ first_of b → tried (found (viewed_in b) o) (λ p. p) ≡ Not WrongShape
       by end h = cc
       by (next d b) h =
           let same : a ≡ d = cc in
@@ -83,16 +81,16 @@ module _ (t : Target) (at : Path) where
 
   view_there : (x : Option Opened) (a : Statement) → Some a ≡ first_statement x
       → is_some (viewed_by a) ≡ true
-      → tried (to_end x) (λ p. p) ≡ tried (asked x) as_piece
+      → tried (to_end x) (λ p. p) ≡ tried (asked x) (λ p. p)
   view_there None a h k = refl
   view_there (Some o) a h k = by o.piece h
     where
-      some : (v : Option Viewed) → is_some v ≡ true → Got (all_from o) ≡ tried (found v o) as_piece
+      some : (v : Option Viewed) → is_some v ≡ true → Got (all_from o) ≡ tried (found v o) (λ p. p)
       some None h = cc
       some (Some v) h = refl
 
       by : (b : Block) → Some a ≡ first_of b
-          → Got (all_from o) ≡ tried (found (viewed_in b) o) as_piece
+          → Got (all_from o) ≡ tried (found (viewed_in b) o) (λ p. p)
       by end h = cc
       by (next d b) h =
           let same : a ≡ d = cc in
@@ -102,18 +100,18 @@ module _ (t : Target) (at : Path) where
   alone_is p one = ap (alone_there t) one ∙ sym (one_alone 1 at t.proc.body refl)
 
   pub nothing_viewed : (p : Piece) → p ≡ one_at at → None ≡ alone_there t p
-      → tried (window_piece t.proc at) as_piece ≡ Not WrongShape
+      → tried (window_piece t.proc at) (λ p. p) ≡ Not WrongShape
   nothing_viewed p one h = none_there first (h ∙ alone_is p one)
 
   pub other_viewed : (p : Piece) (a : Statement) → p ≡ one_at at → Some a ≡ alone_there t p
       → None ≡ viewed_by a
-      → tried (window_piece t.proc at) as_piece ≡ Not WrongShape
+      → tried (window_piece t.proc at) (λ p. p) ≡ Not WrongShape
   other_viewed p a one h k = other_there first a (h ∙ alone_is p one) (sym (ap is_some k))
 
   pub is_viewed : (p : Piece) (a : Statement) (v : Viewed) → p ≡ one_at at
       → Some a ≡ alone_there t p
       → Some v ≡ viewed_by a
-      → tried (opened_to_end t at) (λ p. p) ≡ tried (window_piece t.proc at) as_piece
+      → tried (opened_to_end t at) (λ p. p) ≡ tried (window_piece t.proc at) (λ p. p)
   is_viewed p a v one h k = view_there first a (h ∙ alone_is p one) (sym (ap is_some k))
 
   -- ---- how many there are
@@ -133,7 +131,7 @@ module _ (t : Target) (at : Path) where
       → tried (opened_to_end t at) (λ p. p) ≡ Got (to_count n)
   some_to_end ss from n h k = by first h
     where
-      counted : (ss : List Statement) → pieces.statements (block ss) ≡ length ss
+      counted : (ss : List Statement) → length (statements (block ss)) ≡ length ss
       counted [] = refl
       counted (a ∷ ss) = ap suc (counted ss)
 
@@ -142,9 +140,9 @@ module _ (t : Target) (at : Path) where
       by None h = cc
       by (Some o) h =
           let same : block (drop from ss) ≡ rest_of o.around = cc in
-          let all : pieces.statements (rest_of o.around) ≡ length ss - from =
-          sym (ap pieces.statements same) ∙ counted (drop from ss) ∙ length-drop from ss in
-          let count : 1 + pieces.statements (rest_of o.around) ≡ n = omega (arith, all, k) in
+          let all : length (statements (rest_of o.around)) ≡ length ss - from =
+          sym (ap (λ (b : Block). length (statements b)) same) ∙ counted (drop from ss) ∙ length-drop from ss in
+          let count : 1 + length (statements (rest_of o.around)) ≡ n = omega (arith, all, k) in
           ap (λ (m : ℕ). Got (to_count m)) count
 
 -- ---- what stands for it

@@ -1,12 +1,12 @@
 -- What stands in the place of pieces.
-use Rattle.std.specs.Prelude.{ℕ, ◌+◌, if◌then◌else◌, map, List, Option, option_map}
-use Rattle.exo_tree.specs.Tree.{Argument, Block, Param}
+use Rattle.std.specs.Prelude.{ℕ, ◌+◌, if◌then◌else◌, map, List, length, Option}
+use Rattle.std.specs.Prelude.{option_map}
+use Rattle.exo_tree.specs.Tree.{Argument, Block, Param, statements}
 use Rattle.exo_tree.specs.Context.{rest_of}
 use Rattle.exo_tree.specs.Places.{Path, opened}
+use Rattle.exo_tree.specs.Renaming.{re_param}
 use Rattle.affine_forms.specs.Forms.{Reading}
 use Rattle.match_laws.specs.Inline.AtOnce.{Put, puts}
-use Rattle.match_laws.specs.Inline.InlineRule.{renumbered_param}
-use Rattle.match_laws.specs.Inline.Pieces as pieces
 use Rattle.match_laws.specs.Simplify.SameControls.{in_block}
 use Rattle.cursor_forward.specs.Causes.{WideNumber, Form}
 use Rattle.step_rules.specs.Rule.{Tried, Got, Not, Target, Piece}
@@ -19,10 +19,10 @@ simplified_if at b =
 
 -- the arguments of parameters with those ids
 abbrev pub put_for : (ℕ → ℕ) → List Param → List Argument → Put
-put_for to ps args = after to (puts (map (renumbered_param to) ps) args)
+put_for to ps args = after to (puts (map (re_param to) ps) args)
 
 -- a statement with all that follows it in its block
 abbrev pub opened_to_end : Target → Path → Option Piece
 opened_to_end t at =
-    option_map (λ o. record { path = at; count = 1 + pieces.statements (rest_of o.around) })
+    option_map (λ o. record { path = at; count = 1 + length (statements (rest_of o.around)) })
     (opened 1 at t.proc.body)

@@ -5,12 +5,7 @@ use Rattle.exo_tree.specs.Spans.{is_span}
 use Rattle.exo_tree.specs.Tree.{Control, Lit, Var, Field, StrideOf, Neg, Add, Sub, Mul, Div, Mod}
 use Rattle.exo_tree.specs.Tree.{Condition, True, False, Flag, FieldFlag, Lt, Le, Gt, Ge, Eq, And}
 use Rattle.exo_tree.specs.Tree.{Or, Coord, Argument, ControlArg, ConditionArg, Whole, Window, Param}
-
--- what is passed for a parameter
-abbrev pub passed_for : List Param → List Argument → ℕ → Option Argument
-passed_for [] args x = None
-passed_for (p ∷ ps) [] x = None
-passed_for (p ∷ ps) (a ∷ args) x = if p.binder.id == x then Some a else passed_for ps args x
+pub use Rattle.exo_tree.specs.Passed.{passed_for}
 
 abbrev pub number_for : ℕ → Option Argument → Control
 number_for x None = Var x

@@ -21,7 +21,7 @@ use text_show::Words;
 /// What claims of a procedure are made from: its unit with the modes of its procedures, its words, and the extents and roots of
 /// its names.
 #[derive(Drop)]
-pub(crate) struct Site<'s, 'a, 'r> {
+pub(crate) struct ClaimSite<'s, 'a, 'r> {
     pub(crate) unit: &'a Unit,
     pub(crate) modes: &'s ModeTable,
     pub(crate) words: &'s Words<'a>,
@@ -113,7 +113,12 @@ pub(crate) fn put_window(
 }
 
 /// The claims of the reads of an expression.
-fn put_reads(alloc: Global, out: &mut Claims, site: &Site, e: &DataExpr) -> Result<(), AllocError>
+fn put_reads(
+    alloc: Global,
+    out: &mut Claims,
+    site: &ClaimSite,
+    e: &DataExpr,
+) -> Result<(), AllocError>
     ensures { OnOk result (out.new ≡ out.old ++ read_claims (words_in site.now.words.now) (extents_in site.now.extents.now) (datum e.now)) }
 {
     match e {
@@ -152,7 +157,7 @@ fn put_reads(alloc: Global, out: &mut Claims, site: &Site, e: &DataExpr) -> Resu
 pub(crate) fn put_store(
     alloc: Global,
     out: &mut Claims,
-    site: &Site,
+    site: &ClaimSite,
     x: Id,
     at: &[Ctrl],
     e: &DataExpr,

@@ -21,7 +21,7 @@ ghost use Rattle.check_claims.specs.Seen.{extents_in};
 ghost use Rattle.check_claims.specs.Short.{has_few_params};
 
 use crate::arguments::{Passed, condition_under, control_under};
-use crate::bounds::{Site, put_window};
+use crate::bounds::{ClaimSite, put_window};
 use crate::extents::{dims_of, span_extents};
 use crate::list::Claims;
 use affine_places::Roots;
@@ -33,7 +33,7 @@ use text_show::Words;
 fn put_argument_window(
     alloc: Global,
     out: &mut Claims,
-    site: &Site,
+    site: &ClaimSite,
     a: &Arg,
 ) -> Result<(), AllocError>
     ensures { OnOk result
@@ -60,7 +60,7 @@ fn put_argument_window(
 fn put_argument_windows(
     alloc: Global,
     out: &mut Claims,
-    site: &Site,
+    site: &ClaimSite,
     args: &[Arg],
 ) -> Result<(), AllocError>
     ensures { OnOk result
@@ -175,7 +175,7 @@ fn put_equals(
 fn put_extents(
     alloc: Global,
     out: &mut Claims,
-    site: &Site,
+    site: &ClaimSite,
     passed: &Passed,
     p: &Param,
     a: &Arg,
@@ -203,7 +203,7 @@ fn put_extents(
 fn put_argument_extents(
     alloc: Global,
     out: &mut Claims,
-    site: &Site,
+    site: &ClaimSite,
     passed: &Passed,
     params: &[Param],
     args: &[Arg],
@@ -242,7 +242,7 @@ struct Slot<'a> {
 }
 
 /// Whether parts of one buffer are passed for two parameters.
-fn share_root(site: &Site, callee: ProcId, first: &Slot, second: &Slot) -> bool
+fn share_root(site: &ClaimSite, callee: ProcId, first: &Slot, second: &Slot) -> bool
     ensures { result
         ≡ share_root (roots_in site.now.roots.now) (written_by (program site.now.unit.now) callee.0)
         (argument first.now.arg.now) (argument second.now.arg.now) }
@@ -257,7 +257,7 @@ fn share_root(site: &Site, callee: ProcId, first: &Slot, second: &Slot) -> bool
 }
 
 /// Whether a callee writes or reduces a parameter.
-fn is_written(site: &Site, callee: ProcId, p: &Param) -> bool
+fn is_written(site: &ClaimSite, callee: ProcId, p: &Param) -> bool
     ensures { result ≡ written_by (program site.now.unit.now) callee.0 (parameter p.now).binder.id }
 {
     let modes = site.modes.get(callee, p.binder.id);
@@ -268,7 +268,7 @@ fn is_written(site: &Site, callee: ProcId, p: &Param) -> bool
 /// writes or reduces one of the two.
 fn put_pair(
     out: &mut Claims,
-    site: &Site,
+    site: &ClaimSite,
     callee: ProcId,
     first: &Slot,
     second: &Slot,
@@ -293,7 +293,7 @@ fn put_pair(
 /// The claims of a parameter with each later one.
 fn put_pairs_with(
     out: &mut Claims,
-    site: &Site,
+    site: &ClaimSite,
     callee: ProcId,
     first: &Slot,
     params: &[Param],
@@ -323,7 +323,7 @@ fn put_pairs_with(
 /// The claims of all pairs of parameters.
 fn put_pairs(
     out: &mut Claims,
-    site: &Site,
+    site: &ClaimSite,
     callee: ProcId,
     params: &[Param],
     args: &[Arg],
@@ -372,7 +372,7 @@ fn put_asserted(
 fn put_call_of<'a>(
     alloc: Global,
     out: &mut Claims,
-    site: &Site<'_, 'a, '_>,
+    site: &ClaimSite<'_, 'a, '_>,
     k: ProcId,
     q: &'a Proc,
     args: &Args,
@@ -402,7 +402,7 @@ fn put_call_of<'a>(
 pub(crate) fn put_call(
     alloc: Global,
     out: &mut Claims,
-    site: &Site,
+    site: &ClaimSite,
     k: ProcId,
     args: &Args,
 ) -> Result<(), AllocError>

@@ -25,7 +25,7 @@ ghost use Rattle.check_claims.specs.Seen.{extents_in};
 ghost use Rattle.check_claims.specs.Sources.{AreSources};
 ghost use Rattle.check_claims.specs.Short.{is_short_inside, step_is_short, has_few_params};
 
-use crate::bounds::Site;
+use crate::bounds::ClaimSite;
 use crate::claim::Placed;
 use crate::list::Claims;
 use crate::sources::Sources;
@@ -95,7 +95,7 @@ pub struct Part {
 fn put_taken(
     alloc: Global,
     out: &mut Vec<Placed>,
-    site: &Site,
+    site: &ClaimSite,
     outer: &Path,
     branch: Branch,
     k: u32,
@@ -120,7 +120,7 @@ fn put_taken(
 fn put_place(
     alloc: Global,
     out: &mut Vec<Placed>,
-    site: &Site,
+    site: &ClaimSite,
     window: &mut Window,
     outer: &Path,
     branch: Branch,
@@ -147,7 +147,7 @@ fn put_place(
 fn put_block_places(
     alloc: Global,
     out: &mut Vec<Placed>,
-    site: &Site,
+    site: &ClaimSite,
     window: &mut Window,
     outer: &Path,
     branch: Branch,
@@ -180,7 +180,7 @@ fn put_block_places(
 fn put_inner_places(
     alloc: Global,
     out: &mut Vec<Placed>,
-    site: &Site,
+    site: &ClaimSite,
     window: &mut Window,
     outer: &Path,
     branch: Branch,
@@ -214,7 +214,7 @@ fn put_inner_places(
 fn put_under(
     alloc: Global,
     out: &mut Vec<Placed>,
-    site: &Site,
+    site: &ClaimSite,
     window: &mut Window,
     outer: &Path,
     branch: Branch,
@@ -280,7 +280,7 @@ fn put_places<'u>(
         ≡ with_places (map placed out.old.items, window.old)
         (places_of (program unit.now) (procedure p.now))) }
 {
-    let site = Site {
+    let site = ClaimSite {
         unit,
         modes,
         words: &sources.words,

@@ -22,7 +22,7 @@ ghost use Rattle.check_claims.specs.PlainClaim.{placed};
 ghost use Rattle.check_claims.specs.Seen.{extents_in};
 ghost use Rattle.check_claims.specs.Short.{is_short_inside, step_is_short, has_few_params};
 
-use crate::bounds::{Site, put_sizes, put_store, put_window};
+use crate::bounds::{ClaimSite, put_sizes, put_store, put_window};
 use crate::call::{put_call, put_given};
 use crate::claim::Placed;
 use crate::extents::{Extents, dims_of};
@@ -37,7 +37,7 @@ use text_show::Words;
 fn put_write(
     alloc: Global,
     out: &mut Claims,
-    site: &Site,
+    site: &ClaimSite,
     f: FieldId,
     a: &Arg,
 ) -> Result<(), AllocError>
@@ -57,7 +57,7 @@ fn put_write(
 pub(crate) fn put_own(
     alloc: Global,
     out: &mut Claims,
-    site: &Site,
+    site: &ClaimSite,
     s: &Stmt,
 ) -> Result<(), AllocError>
     ensures { OnOk result
@@ -90,7 +90,7 @@ pub(crate) fn put_own(
 fn put_block(
     alloc: Global,
     out: &mut Vec<Placed>,
-    site: &Site,
+    site: &ClaimSite,
     outer: &Path,
     branch: Branch,
     b: &Block,
@@ -122,7 +122,7 @@ fn put_block(
 fn put_inner(
     alloc: Global,
     out: &mut Vec<Placed>,
-    site: &Site,
+    site: &ClaimSite,
     path: &Path,
     s: &Stmt,
 ) -> Result<(), AllocError>
@@ -164,7 +164,7 @@ pub(crate) fn put_params(
 fn put_procedure(
     alloc: Global,
     out: &mut Vec<Placed>,
-    site: &Site,
+    site: &ClaimSite,
     p: &Proc,
 ) -> Result<(), AllocError>
     requires short { is_short (block p.now.body) ≡ true }
@@ -202,7 +202,7 @@ fn put_claims(
 {
     let words = Words::new(alloc, unit, p)?;
     let extents = Extents::of(alloc, p)?;
-    let site = Site {
+    let site = ClaimSite {
         unit,
         modes,
         words: &words,
@@ -235,7 +235,12 @@ pub fn claims_of(
 }
 
 /// The claims of a statement itself, with its path.
-fn placed_own(alloc: Global, site: &Site, path: &Path, s: &Stmt) -> Result<Vec<Placed>, AllocError>
+fn placed_own(
+    alloc: Global,
+    site: &ClaimSite,
+    path: &Path,
+    s: &Stmt,
+) -> Result<Vec<Placed>, AllocError>
     ensures { IfOk result (λ l. map placed l.items
         ≡ placed_at path.now
         (own_claims (words_in site.now.words.now) (program site.now.unit.now)
@@ -268,7 +273,7 @@ fn own_there(
     };
     let words = Words::new(alloc, unit, p)?;
     let extents = Extents::of(alloc, p)?;
-    let site = Site {
+    let site = ClaimSite {
         unit,
         modes,
         words: &words,

@@ -13,7 +13,7 @@ use Rattle.affine_forms.specs.Outcomes.{IsWide}
 use Rattle.affine_places.specs.Facts.{FieldFact}
 use Rattle.check_facts.specs.Contexts.{formulas, all_fit, facts_at, facts_from, known_at_place, context_fits, ContextMade}
 use Rattle.check_facts.specs.Walks.{telling_of, head_facts, round_facts, place_of}
-use Rattle.check_facts.specs.declared.basis.Ground.{Ground}
+use Rattle.check_facts.specs.declared.basis.Basis.{Basis}
 use Rattle.check_facts.proofs.Adding.{Came}
 use Rattle.check_facts.proofs.Openings.{here}
 
@@ -42,15 +42,15 @@ none_told f (suc count) = none_told (suc f) count
 
 -- ---- the context
 
-facts_parts : (g : Ground) (o : Option Opened) → facts_at (program g.unit.now) (procedure g.proc.now) o ≡ head_facts (procedure g.proc.now) ++ round_facts (telling_of g) o
+facts_parts : (g : Basis) (o : Option Opened) → facts_at (program g.unit.now) (procedure g.proc.now) o ≡ head_facts (procedure g.proc.now) ++ round_facts (telling_of g) o
 facts_parts g None = refl
 facts_parts g (Some o) = refl
 
-pub context_refused : (r : Result (List Formula × List FieldFact) FormError) (e : FormError) (g : Ground) (path : Path) → IsErrAnd r (λ x. x ≡ e) → IsWide e (all_fit (program g.unit.now) (procedure g.proc.now) (head_facts (procedure g.proc.now) ++ round_facts (telling_of g) (place_of path g))) → ContextMade r (program g.unit.now) (procedure g.proc.now) path
+pub context_refused : (r : Result (List Formula × List FieldFact) FormError) (e : FormError) (g : Basis) (path : Path) → IsErrAnd r (λ x. x ≡ e) → IsWide e (all_fit (program g.unit.now) (procedure g.proc.now) (head_facts (procedure g.proc.now) ++ round_facts (telling_of g) (place_of path g))) → ContextMade r (program g.unit.now) (procedure g.proc.now) path
 context_refused (Ok t) e g path is w = absurd is
 context_refused (Err x) e g path is w = subst (λ y. IsWide y (context_fits (program g.unit.now) (procedure g.proc.now) path)) (sym is) (subst (λ es. IsWide e (all_fit (program g.unit.now) (procedure g.proc.now) es)) (sym (facts_parts g (place_of path g))) w)
 
-pub context_made : (g : Ground) (path : Path) (context : List Formula) (facts : List FieldFact) → Came g (head_facts (procedure g.proc.now) ++ round_facts (telling_of g) (place_of path g)) [] context → facts ≡ facts_from zero g.count (known_at_place (program g.unit.now) (procedure g.proc.now) (place_of path g)) → ContextMade (Ok (context, facts)) (program g.unit.now) (procedure g.proc.now) path
+pub context_made : (g : Basis) (path : Path) (context : List Formula) (facts : List FieldFact) → Came g (head_facts (procedure g.proc.now) ++ round_facts (telling_of g) (place_of path g)) [] context → facts ≡ facts_from zero g.count (known_at_place (program g.unit.now) (procedure g.proc.now) (place_of path g)) → ContextMade (Ok (context, facts)) (program g.unit.now) (procedure g.proc.now) path
 context_made g path context facts came made =
     let parts = facts_parts g (place_of path g) in (
       ap (all_fit (program g.unit.now) (procedure g.proc.now)) parts ∙ came.0,

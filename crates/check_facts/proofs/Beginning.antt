@@ -15,7 +15,7 @@ use Rattle.affine_forms.specs.Formulas.{Formula}
 use Rattle.affine_forms.specs.Outcomes.{IsWide}
 use Rattle.check_facts.specs.Contexts.{all_fit}
 use Rattle.check_facts.specs.Walks.{SameBelow, Added, known_first}
-use Rattle.check_facts.specs.declared.basis.Ground.{Ground}
+use Rattle.check_facts.specs.declared.basis.Basis.{Basis}
 use Rattle.check_facts.proofs.Rooms.{parts}
 use Rattle.check_facts.proofs.Adding.{Came, added_more, refused_first, left_early}
 
@@ -25,10 +25,10 @@ entry_same count known h = λ f lt. ap (λ k. k f) h
 -- ---- one after the other
 
 -- facts that are some and then others
-pub parts_added : {A : Type 0} (r : Result A FormError) (g : Ground) (es fs gs : List PlaceFact) (old now new : List Formula) → es ≡ fs ++ gs → Came g fs old now → Added r g gs now new → Added r g es old new
+pub parts_added : {A : Type 0} (r : Result A FormError) (g : Basis) (es fs gs : List PlaceFact) (old now new : List Formula) → es ≡ fs ++ gs → Came g fs old now → Added r g gs now new → Added r g es old new
 parts_added r g es fs gs old now new e first more = subst (λ xs. Added r g xs old new) (sym e) (added_more r g fs gs old now new first more)
 
-pub part_refused : {A : Type 0} (r : Result A FormError) (g : Ground) (es fs gs : List PlaceFact) (old new : List Formula) (e : FormError) → es ≡ fs ++ gs → IsErrAnd r (λ x. x ≡ e) → IsWide e (all_fit (program g.unit.now) (procedure g.proc.now) fs) → Added r g es old new
+pub part_refused : {A : Type 0} (r : Result A FormError) (g : Basis) (es fs gs : List PlaceFact) (old new : List Formula) (e : FormError) → es ≡ fs ++ gs → IsErrAnd r (λ x. x ≡ e) → IsWide e (all_fit (program g.unit.now) (procedure g.proc.now) fs) → Added r g es old new
 part_refused r g es fs gs old new e s is w = subst (λ xs. Added r g xs old new) (sym s) (left_early r e g (fs ++ gs) old new is (refused_first g fs gs e w))
 
 -- ---- parameters and assertions

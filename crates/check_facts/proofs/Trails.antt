@@ -12,7 +12,7 @@ use Rattle.meaning_laws.specs.KnownFields.{KnownFields, path_in}
 use Rattle.check_facts.specs.Tables.{known_in}
 use Rattle.check_facts.specs.Trails.{step_to, Stand, StandIn, StandInside}
 use Rattle.check_facts.specs.Walks.{telling_of, SameBelow, passed, known_inside}
-use Rattle.check_facts.specs.declared.basis.Ground.{Ground}
+use Rattle.check_facts.specs.declared.basis.Basis.{Basis}
 use Rattle.check_facts.specs.declared.known.Known.{Known}
 use Rattle.check_facts.specs.declared.level.Level.{Level}
 
@@ -29,7 +29,7 @@ slice_at zero (x ∷ xs) others a e = ap (λ ys. slice_get ys 0) e
 slice_at (suc k) [] others a e = cc
 slice_at (suc k) (x ∷ xs) others a e = slice_at k xs others a e
 
-module _ (g : Ground) where
+module _ (g : Basis) where
   -- the level of a block
   pub stand_in : (outer : Path) (blocks : Branch → Option Block) (b : Block) (first : KnownFields) (l : Level) (ls : List Level) → blocks (branch_taken l.branch) ≡ Some b → Stand g outer blocks first (l ∷ ls) → StandIn g outer b first l ls
   stand_in outer blocks b first l ls e h = subst (λ x. IfSome x (λ c. StandIn g outer c first l ls)) e h

@@ -8,7 +8,7 @@ use Rattle.exo_tree.specs.PlainPlace.{branch_taken}
 use Rattle.meaning_laws.specs.KnownFields.{KnownFields, path_in}
 use Rattle.check_facts.specs.Tables.{known_in}
 use Rattle.check_facts.specs.Walks.{telling_of, SameBelow, passed, known_inside}
-use Rattle.check_facts.specs.declared.basis.Ground.{Ground}
+use Rattle.check_facts.specs.declared.basis.Basis.{Basis}
 use Rattle.check_facts.specs.declared.level.Level.{Level}
 use Rattle.check_facts.specs.declared.level.Trail.{Trail}
 
@@ -25,7 +25,7 @@ abbrev pub body_in : Block → Branch → Option Block
 body_in body Main = Some body
 body_in body Else = None
 
-module _ (g : Ground) where
+module _ (g : Basis) where
   -- Levels on the way from those blocks inwards, where `first` is known at their heads: the
   -- outermost says what is known before its statement, and the others are on the way from the
   -- blocks of that.

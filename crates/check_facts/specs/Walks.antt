@@ -16,9 +16,9 @@ use Rattle.affine_forms.specs.declared.error.FormError.{FormError}
 use Rattle.affine_forms.specs.Formulas.{Formula}
 use Rattle.affine_forms.specs.Outcomes.{IsWide}
 use Rattle.check_facts.specs.Contexts.{telling, formulas, all_fit}
-use Rattle.check_facts.specs.declared.basis.Ground.{Ground}
+use Rattle.check_facts.specs.declared.basis.Basis.{Basis}
 
-abbrev pub telling_of : Ground → Telling
+abbrev pub telling_of : Basis → Telling
 telling_of g = telling (program g.unit.now) (procedure g.proc.now)
 
 -- ---- one field
@@ -82,7 +82,7 @@ known_inside tell path a known = known
 -- the formulas of these facts come behind the others, exactly where all their normal forms can be
 -- written down
 abbrev pub Added :
-    {A : Type 0} → Result A FormError → Ground → List PlaceFact → List Formula → List Formula
+    {A : Type 0} → Result A FormError → Basis → List PlaceFact → List Formula → List Formula
     → Type 0
 Added (Ok t) g es old new =
     (all_fit (program g.unit.now) (procedure g.proc.now) es ≡ true)
@@ -102,5 +102,5 @@ abbrev pub round_facts : Telling → Option Opened → List PlaceFact
 round_facts tell None = []
 round_facts tell (Some o) = facts_round tell [] Main zero o.around o.piece at_entry
 
-abbrev pub place_of : Path → Ground → Option Opened
+abbrev pub place_of : Path → Basis → Option Opened
 place_of path g = opened 1 path (procedure g.proc.now).body

@@ -10,7 +10,7 @@ ghost use Rattle.check_facts.specs.Values.{plain_value};
 ghost use Rattle.check_facts.specs.Walks.{telling_of, kept_value, value_after, value_at_end};
 
 use crate::agreement::is_same_value;
-use crate::basis::Ground;
+use crate::basis::Basis;
 use crate::value::{Right, Value};
 use crate::writes::{call_writes, writes};
 use affine_places::AtEntry;
@@ -33,7 +33,7 @@ pub(crate) fn path_in(outer: &Path, branch: Branch, k: usize) -> Path
 
 /// A value on which the ends of two branches agree, else one that the statement at the path makes unknown.
 fn kept<'a>(
-    basis: &Ground<'_, '_>,
+    basis: &Basis<'_, '_>,
     alloc: Global,
     path: &Path,
     one: Value<'a>,
@@ -69,7 +69,7 @@ fn unless_written<'a>(may: bool, path: &Path, value: Value<'a>) -> Value<'a>
 /// What is known of a field after the statement at a path.
 #[cycle(after)]
 pub(crate) fn after<'a>(
-    basis: &Ground<'_, '_>,
+    basis: &Basis<'_, '_>,
     alloc: Global,
     f: FieldId,
     path: &Path,
@@ -110,7 +110,7 @@ pub(crate) fn after<'a>(
 /// What is known of it at the end of a branch of the statement at a path.
 #[cycle(after)]
 fn at_end<'a>(
-    basis: &Ground<'_, '_>,
+    basis: &Basis<'_, '_>,
     alloc: Global,
     f: FieldId,
     outer: &Path,

@@ -15,7 +15,7 @@ use exo_tree::{Proc, Unit};
 /// A procedure with its unit: the roots of its names, the fields that each procedure of the unit
 /// may write, and how many fields there are.
 #[derive(Drop)]
-pub(crate) struct Ground<'w, 'r> {
+pub(crate) struct Basis<'w, 'r> {
     pub(crate) unit: &'w Unit,
     pub(crate) proc: &'w Proc,
     pub(crate) roots: &'w Roots<'r>,

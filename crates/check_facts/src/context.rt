@@ -11,7 +11,7 @@ ghost use Rattle.check_facts.specs.Contexts.{may_be_walked};
 ghost use Rattle.check_facts.specs.Tables.{known_in};
 ghost use Rattle.check_facts.specs.Walks.{Added, known_first, head_facts};
 
-use crate::basis::Ground;
+use crate::basis::Basis;
 use crate::enter::{add_at_most, add_holds};
 use crate::known::Known;
 use affine_forms::FormError;
@@ -21,7 +21,7 @@ use std::alloc::Global;
 
 /// Adds the formulas of a control parameter.
 fn add_kind(
-    basis: &Ground<'_, '_>,
+    basis: &Basis<'_, '_>,
     alloc: Global,
     known: &Known<'_>,
     x: Id,
@@ -44,7 +44,7 @@ fn add_kind(
 
 /// Adds the formulas of a procedure's parameters.
 fn add_params(
-    basis: &Ground<'_, '_>,
+    basis: &Basis<'_, '_>,
     alloc: Global,
     known: &Known<'_>,
     params: &Params,
@@ -63,7 +63,7 @@ fn add_params(
 
 /// Adds the formulas of its assertions.
 fn add_asserts(
-    basis: &Ground<'_, '_>,
+    basis: &Basis<'_, '_>,
     alloc: Global,
     known: &Known<'_>,
     asserts: &Conds,
@@ -81,7 +81,7 @@ fn add_asserts(
 
 /// Adds the formulas of a procedure's parameters and assertions.
 pub(crate) fn add_first(
-    basis: &Ground<'_, '_>,
+    basis: &Basis<'_, '_>,
     alloc: Global,
     known: &Known<'_>,
     context: &mut Context,

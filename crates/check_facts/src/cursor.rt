@@ -14,9 +14,9 @@ ghost use Rattle.affine_places.specs.Seen.{roots_in};
 ghost use Rattle.check_facts.specs.Contexts.{IsPlaceOf, IsPlaceIn, may_be_walked, facts_from, known_at_place, ContextMade};
 ghost use Rattle.check_facts.specs.Trails.{levels_of, body_in, Stand, StandIn};
 ghost use Rattle.check_facts.specs.Walks.{telling_of, Added, round_facts, place_of};
-ghost use Rattle.check_facts.specs.declared.basis.Ground as basis;
+ghost use Rattle.check_facts.specs.declared.basis.Basis as basis;
 
-use crate::basis::Ground;
+use crate::basis::Basis;
 use crate::context::add_first;
 use crate::known::Known;
 use crate::level::{Level, Trail};
@@ -33,7 +33,7 @@ use std::marker::Model;
 fn first_level<'w>(alloc: Global, to: u32, trail: &mut Trail<'w>) -> Level<'w>
     ensures branch { branch_taken result.branch ≡ places.Main }
     ensures index { result.index ≤ to }
-    ensures stand { (g : basis.Ground) (body : Block)
+    ensures stand { (g : basis.Basis) (body : Block)
         → Stand g [] (body_in body) at_entry (levels_of trail.old)
         → StandIn g [] body at_entry result (levels_of trail.new) }
 {
@@ -49,7 +49,7 @@ fn first_level<'w>(alloc: Global, to: u32, trail: &mut Trail<'w>) -> Level<'w>
 
 /// Goes down to the statement to which the first step into the body and the other steps lead.
 fn descend<'w>(
-    basis: &Ground<'w, '_>,
+    basis: &Basis<'w, '_>,
     alloc: Global,
     first: Step,
     steps: &[Step],
@@ -80,7 +80,7 @@ fn descend<'w>(
 
 /// Goes to the place: adds the formulas of the loops and branches around it, and finds what is known of fields there.
 fn go<'w>(
-    basis: &Ground<'w, '_>,
+    basis: &Basis<'w, '_>,
     alloc: Global,
     path: &Path,
     trail: &mut Trail<'w>,
@@ -111,12 +111,12 @@ fn go<'w>(
 
 /// Goes from place to place of a procedure. In text order each statement is passed once.
 #[derive(Drop)]
-pub struct Cursor<'w, 'r> {
-    basis: Ground<'w, 'r>,
+pub struct PlaceWalk<'w, 'r> {
+    basis: Basis<'w, 'r>,
     trail: Trail<'w>,
 }
 
-impl<'w, 'r> Model for Cursor<'w, 'r> {
+impl<'w, 'r> Model for PlaceWalk<'w, 'r> {
     ghost use Rattle.std.specs.Coded.{coded×};
     ghost use Rattle.exo_tree.specs.Tree.{Procedure, Program};
     ghost use Rattle.exo_tree.specs.Codes.{procedure_code};
@@ -141,7 +141,7 @@ impl<'w, 'r> Model for Cursor<'w, 'r> {
         (levels_of c.trail)) };
 }
 
-impl<'w, 'r> Cursor<'w, 'r> {
+impl<'w, 'r> PlaceWalk<'w, 'r> {
     /// A cursor for the places of a procedure of the unit. The roots are those of the procedure's names, and the table says
     /// which fields each procedure of the unit may write.
     pub fn new(
@@ -150,7 +150,7 @@ impl<'w, 'r> Cursor<'w, 'r> {
         proc: &'w Proc,
         roots: &'w Roots<'r>,
         writes: &'w FieldTable,
-    ) -> Cursor<'w, 'r>
+    ) -> PlaceWalk<'w, 'r>
         requires numbered { length (program unit.now).fields < 4294967296 }
         requires roots { roots_in roots.now ≡ roots_of (procedure proc.now) }
         requires table { IsTable (length (program unit.now).fields) (unit_writes (program unit.now).procedures) writes.now }
@@ -158,7 +158,7 @@ impl<'w, 'r> Cursor<'w, 'r> {
         ensures { result ≡ (program unit.now, procedure proc.now) }
     {
         let count = unit.fields.len() as u32;
-        let basis = Ground {
+        let basis = Basis {
             unit,
             proc,
             roots,
@@ -166,7 +166,7 @@ impl<'w, 'r> Cursor<'w, 'r> {
             count,
         };
         let trail = Trail::new(alloc);
-        Cursor { basis, trail }
+        PlaceWalk { basis, trail }
     }
 
     /// What holds before the statement at a path, or before the body where the path is empty, and what is known of fields
@@ -189,7 +189,7 @@ impl<'w, 'r> Cursor<'w, 'r> {
     }
 }
 
-/// The context and the facts of one place of a procedure, as `Cursor::at` gives them.
+/// The context and the facts of one place of a procedure, as `PlaceWalk::at` gives them.
 pub fn context_at(
     alloc: Global,
     unit: &Unit,
@@ -207,6 +207,6 @@ pub fn context_at(
     };
     let roots = Roots::of(alloc, proc)?;
     let writes = written_table(alloc, unit)?;
-    let mut cursor = Cursor::new(alloc, unit, proc, &roots, &writes);
+    let mut cursor = PlaceWalk::new(alloc, unit, proc, &roots, &writes);
     cursor.at(alloc, path)
 }

@@ -16,7 +16,7 @@ ghost use Rattle.check_facts.specs.Contexts.{condition_formula, condition_fits};
 ghost use Rattle.check_facts.specs.Tables.{known_in};
 ghost use Rattle.check_facts.specs.Walks.{SameBelow, Added, entered};
 
-use crate::basis::Ground;
+use crate::basis::Basis;
 use crate::known::Known;
 use affine_forms::{FormError, Formula, formula_of};
 use affine_places::AtPlace;
@@ -26,7 +26,7 @@ use std::alloc::{AllocError, Global};
 
 /// The formula of a condition where that is known of fields.
 fn formula_where(
-    basis: &Ground<'_, '_>,
+    basis: &Basis<'_, '_>,
     alloc: Global,
     known: &Known<'_>,
     c: &Cond,
@@ -49,7 +49,7 @@ fn formula_where(
 
 /// Adds the formula of a condition that holds.
 pub(crate) fn add_holds(
-    basis: &Ground<'_, '_>,
+    basis: &Basis<'_, '_>,
     alloc: Global,
     known: &Known<'_>,
     c: &Cond,
@@ -75,7 +75,7 @@ fn push_denied(alloc: Global, f: &Formula, context: &mut Context) -> Result<(), 
 
 /// Adds the formula of a condition that does not hold.
 fn add_fails(
-    basis: &Ground<'_, '_>,
+    basis: &Basis<'_, '_>,
     alloc: Global,
     known: &Known<'_>,
     c: &Cond,
@@ -94,7 +94,7 @@ fn add_fails(
 
 /// Adds the formula of a condition that holds and that was made for this alone.
 fn add_made(
-    basis: &Ground<'_, '_>,
+    basis: &Basis<'_, '_>,
     alloc: Global,
     known: &Known<'_>,
     c: Cond,
@@ -114,7 +114,7 @@ fn add_made(
 
 /// Adds the formula that one expression is at most another.
 pub(crate) fn add_at_most(
-    basis: &Ground<'_, '_>,
+    basis: &Basis<'_, '_>,
     alloc: Global,
     known: &Known<'_>,
     a: Ctrl,
@@ -133,7 +133,7 @@ pub(crate) fn add_at_most(
 
 /// Adds the formulas of a loop's bounds.
 fn add_bounds(
-    basis: &Ground<'_, '_>,
+    basis: &Basis<'_, '_>,
     alloc: Global,
     known: &Known<'_>,
     i: Id,
@@ -157,7 +157,7 @@ fn add_bounds(
 
 /// Adds the formulas of a loop or branch into which the way goes.
 pub(crate) fn enter(
-    basis: &Ground<'_, '_>,
+    basis: &Basis<'_, '_>,
     alloc: Global,
     known: &Known<'_>,
     branch: Branch,

@@ -16,4 +16,4 @@ mod walk;
 mod writes;
 
 pub use agreement::is_same_path;
-pub use cursor::{Cursor, context_at};
+pub use cursor::{PlaceWalk, context_at};

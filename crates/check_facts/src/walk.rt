@@ -18,7 +18,7 @@ ghost use Rattle.check_facts.specs.Trails.{levels_of, step_to, Stand, StandIn};
 ghost use Rattle.check_facts.specs.Walks.{telling_of, SameBelow, passed, known_inside, Added};
 
 use crate::after::{after, path_in};
-use crate::basis::Ground;
+use crate::basis::Basis;
 use crate::enter::enter;
 use crate::known::Known;
 use crate::level::{Level, Trail};
@@ -31,7 +31,7 @@ use std::alloc::{AllocError, Global};
 
 /// What is known of each field after the statement at a path, one field after the other.
 fn each_after<'a>(
-    basis: &Ground<'_, '_>,
+    basis: &Basis<'_, '_>,
     alloc: Global,
     path: &Path,
     s: &'a Stmt,
@@ -52,7 +52,7 @@ fn each_after<'a>(
 
 /// What is known of all fields after the statement at a path.
 fn all_after<'a>(
-    basis: &Ground<'_, '_>,
+    basis: &Basis<'_, '_>,
     alloc: Global,
     path: &Path,
     s: &'a Stmt,
@@ -80,7 +80,7 @@ fn all_after<'a>(
 /// The same after the statement of that index in a branch of the statement at a path. A path is
 /// made only where the statement may change what is known.
 fn all_after_next<'a>(
-    basis: &Ground<'_, '_>,
+    basis: &Basis<'_, '_>,
     alloc: Global,
     outer: &Path,
     branch: Branch,
@@ -112,7 +112,7 @@ fn all_after_next<'a>(
 /// From what is known of them before one statement of a branch of the statement at a path, what is
 /// known before a later one.
 fn pass<'a>(
-    basis: &Ground<'_, '_>,
+    basis: &Basis<'_, '_>,
     alloc: Global,
     outer: &Path,
     branch: Branch,
@@ -146,7 +146,7 @@ fn pass<'a>(
 /// Brings the level of a block on to the statement of that index. Where that is another one, what
 /// is known inside is forgotten.
 pub(crate) fn bring<'a>(
-    basis: &Ground<'_, '_>,
+    basis: &Basis<'_, '_>,
     alloc: Global,
     outer: &Path,
     b: &'a Block,
@@ -194,7 +194,7 @@ pub(crate) fn bring<'a>(
 
 /// What is known at the head of a block of the statement at a path.
 fn inside<'a>(
-    basis: &Ground<'_, '_>,
+    basis: &Basis<'_, '_>,
     alloc: Global,
     path: &Path,
     s: &'a Stmt,
@@ -218,7 +218,7 @@ fn inside<'a>(
 /// The level of a block of the statement at a path, on the way to a step: that of the trail, or one
 /// at the head of the block.
 fn level_inside<'a>(
-    basis: &Ground<'_, '_>,
+    basis: &Basis<'_, '_>,
     alloc: Global,
     path: &Path,
     s: &'a Stmt,
@@ -252,7 +252,7 @@ fn level_inside<'a>(
 /// formulas of the loops and branches on the way, and finds what is known of fields there. The
 /// levels on the way come into the trail.
 pub(crate) fn walk<'a>(
-    basis: &Ground<'_, '_>,
+    basis: &Basis<'_, '_>,
     alloc: Global,
     outer: &Path,
     b: &'a Block,

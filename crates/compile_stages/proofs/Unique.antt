@@ -10,7 +10,7 @@ use Rattle.exo_reader.specs.Items.{unit}
 use Rattle.exo_reader.specs.Texts.{tokens_of, places_of, TextsAreOne}
 use Rattle.rules_names.specs.declared.error.TypeError.{TypeError}
 use Rattle.rules_names.specs.declared.fault.Fault.{Fault}
-use Rattle.exo_types.specs.Typed.{IsErrorAt}
+use Rattle.exo_types.specs.UnitBuilder.{IsErrorAt}
 use Rattle.exo_types.specs.UnitRules.{unit_fault}
 use Rattle.schedule_text.specs.Tree as tree
 use Rattle.schedule_text.specs.Grammar as grammar

@@ -19,7 +19,7 @@ use Rattle.exo_reader.specs.Texts.{tokens_of, places_of, IsFault}
 use Rattle.exo_reader.specs.declared.unit.ReadError.{ReadError}
 use Rattle.rules_names.specs.declared.error.TypeError.{TypeError}
 use Rattle.rules_names.specs.declared.fault.Fault.{Fault}
-use Rattle.exo_types.specs.Typed.{IsErrorAt}
+use Rattle.exo_types.specs.UnitBuilder.{IsErrorAt}
 use Rattle.exo_types.specs.UnitRules.{unit_fault, unit_of}
 use Rattle.exo_types.specs.UnitLines.{lines_of}
 use Rattle.exo_types_laws.specs.Laws.{IsLow}

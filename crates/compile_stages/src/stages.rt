@@ -4,7 +4,7 @@ ghost use Rattle.std.specs.Prelude.{string_bytes};
 ghost use Rattle.exo_tree.specs.PlainUnit.{program};
 ghost use Rattle.exo_meaning.specs.Units.{IsUnit};
 ghost use Rattle.exo_reader.specs.Texts.{ReadsUnit};
-ghost use Rattle.exo_types.specs.Typed.{IsPlaced, items_of};
+ghost use Rattle.exo_types.specs.UnitBuilder.{IsPlaced, items_of};
 ghost use Rattle.exo_types.specs.UnitRules.{unit_fault, unit_of};
 ghost use Rattle.exo_types_laws.specs.Laws.{IsLow};
 ghost use Rattle.unit_check.specs.Checked.{Checked};

@@ -4,6 +4,7 @@ use Rattle.std.specs.Prelude.{List, [], ◌∷◌, Option, Some, None}
 use Rattle.exo_tree.specs.Tree.{Pass, Block, end, next, Procedure}
 use Rattle.exo_tree.specs.Context.{Context, Here, After, InLoop, InThen, InElse, fill, rest_of}
 use Rattle.exo_tree.specs.Places.{Main, Path, Opened, opened}
+pub use Rattle.exo_tree.specs.Places.{Piece}
 use Rattle.meaning_laws.specs.Live.{live_behind}
 use Rattle.meaning_laws.specs.UnitFields.{unit_live}
 use Rattle.place_laws.specs.Scope.PlacesCompose.{onward}
@@ -21,11 +22,6 @@ pub data Tried (T : Type 0) : Type 0 where
 abbrev pub then_try : {T U : Type 0} → Tried T → (T → Tried U) → Tried U
 then_try (Got t) f = f t
 then_try (Not cause) f = Not cause
-
--- so many statements from a path on: those that are replaced
-pub record Piece : Type 0 where
-  pub path : Path
-  pub count : ℕ
 
 -- before a statement or behind it
 pub data Side : Type 0 where

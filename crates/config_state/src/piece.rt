@@ -10,7 +10,7 @@ use exo_tree::{Block, Branch, Path, ProcId, Step, Unit};
 
 /// Statements of a block: those from one index up to another.
 #[derive(Clone, Copy)]
-pub(crate) struct Piece<'a> {
+pub(crate) struct StatementRange<'a> {
     pub(crate) block: &'a Block,
     pub(crate) from: usize,
     pub(crate) to: usize,
@@ -30,7 +30,7 @@ fn block_at<'a>(b: &'a Block, path: &[Step]) -> Option<&'a Block>
 }
 
 /// So many statements of a block from an index on, where they are there.
-fn cut<'a>(b: &'a Block, from: usize, count: usize) -> Option<Piece<'a>>
+fn cut<'a>(b: &'a Block, from: usize, count: usize) -> Option<StatementRange<'a>>
     ensures { MatchOption result (length b.now < from + count)
         (λ r. (from + count ≤ length b.now)
         × (r.block.now ≡ b.now)
@@ -40,7 +40,7 @@ fn cut<'a>(b: &'a Block, from: usize, count: usize) -> Option<Piece<'a>>
     if count > b.len() || from > b.len() - count {
         return None;
     }
-    Some(Piece {
+    Some(StatementRange {
         block: b,
         from,
         to: from + count,
@@ -48,7 +48,12 @@ fn cut<'a>(b: &'a Block, from: usize, count: usize) -> Option<Piece<'a>>
 }
 
 /// So many statements of a procedure from a path on; None exactly where they are not there.
-pub(crate) fn piece_at<'a>(unit: &'a Unit, p: ProcId, path: &Path, count: u32) -> Option<Piece<'a>>
+pub(crate) fn piece_at<'a>(
+    unit: &'a Unit,
+    p: ProcId,
+    path: &Path,
+    count: u32,
+) -> Option<StatementRange<'a>>
     ensures { MatchOption result (piece_at (program unit.now) p.0 path.now count ≡ None)
         (λ r. piece_at (program unit.now) p.0 path.now count
         ≡ Some (block (slice_range r.block.now r.from r.to))) }

@@ -14,7 +14,7 @@ use crate::listing::Contexts;
 use affine_forms::FormError;
 use affine_places::Roots;
 use affine_systems::Context;
-use check_facts::Cursor;
+use check_facts::PlaceWalk;
 use config_state::FieldTable;
 use exo_tree::{Path, Proc, Unit};
 use std::alloc::Global;
@@ -44,7 +44,7 @@ impl Contexts for Standing<'_, '_> {
     ghost fits = { λ s. context_fits (program s.unit.now) (procedure s.proc.now) s.path.now };
 
     fn context(&self, alloc: Global) -> Result<Context, FormError> {
-        let mut cursor = Cursor::new(alloc, self.unit, self.proc, self.roots, self.writes);
+        let mut cursor = PlaceWalk::new(alloc, self.unit, self.proc, self.roots, self.writes);
         let (context, _) = cursor.at(alloc, self.path)?;
         Ok(context)
     }

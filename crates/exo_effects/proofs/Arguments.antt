@@ -7,10 +7,10 @@ use Rattle.exo_meaning.specs.Modes as meaning
 use Rattle.exo_meaning.specs.Modes.{Mode, Reading, Writing, Reducing, picked}
 use Rattle.exo_effects.specs.Uses as uses
 use Rattle.exo_effects.specs.Uses.{Use, use_of, uses_of, modes_had, part_of_argument, params_of}
-use Rattle.exo_effects.specs.declared.inside.Site.{Site}
+use Rattle.exo_effects.specs.declared.inside.EffectSite.{EffectSite}
 use Rattle.exo_effects.specs.PlainWalk.{arguments_uses}
 
-module _ (s : Site) (at : uses.Inside) (callee : meaning.Modes) where
+module _ (s : EffectSite) (at : uses.Inside) (callee : meaning.Modes) where
   nothing_given : (ps : List Param) → arguments_uses s at callee ps [] ≡ []
   nothing_given [] = refl
   nothing_given (p ∷ ps) = refl

@@ -13,7 +13,7 @@ use Rattle.text_show.specs.Words.{Words, words_of}
 use Rattle.exo_effects.specs.Parts.{Parts, no_parts, with_params, parts_at}
 use Rattle.exo_effects.specs.PlainSpots.{LeadsTo}
 use Rattle.exo_effects.specs.Uses.{Use, uses_of, part_of_argument, at_hole, argument_in, argument_at}
-use Rattle.exo_effects.specs.declared.piece.Spot.{Spot}
+use Rattle.exo_effects.specs.declared.piece.PieceStart.{PieceStart}
 
 got : {A B : Type 0} (f : A → B) (xs : List A) (k : ℕ) (x : A) → k < length xs → x ≡ get_or xs k x
     → slice_get (map f xs) k ≡ Some (f x)
@@ -28,7 +28,7 @@ whole_use w parts a =
     (Writing ∷ [])
 
 module _ (u : Program) (p : Procedure) (path : Path) (k : ℕ) where
-  pub argued : (s : Spot) (old new : Parts) (args : List Arg) (a : Arg) (w : Words)
+  pub argued : (s : PieceStart) (old new : Parts) (args : List Arg) (a : Arg) (w : Words)
       → LeadsTo 1 (opened 1 path p.body) (Some s) old new → old ≡ with_params p.params no_parts
       → map argument args ≡ call_arguments (block (slice_range s.block.now s.from (s.from + 1)))
       → k < length args → a ≡ get_or args k a → w ≡ words_of u p

@@ -8,7 +8,7 @@ use Rattle.exo_tree.specs.Places.{Branch, Main, Else, Step, Path, Opened, parted
 use Rattle.exo_tree.specs.Branches.{branch_of}
 use Rattle.meaning_laws.proofs.Parts.{none_some}
 use Rattle.exo_effects.specs.Parts.{Parts, passed, parts_at}
-use Rattle.exo_effects.specs.declared.piece.Spot.{Spot}
+use Rattle.exo_effects.specs.declared.piece.PieceStart.{PieceStart}
 use Rattle.exo_effects.specs.PlainSpots.{passed_all, LeadsTo}
 
 -- ---- one more statement passed
@@ -92,7 +92,7 @@ module _ (count : ℕ) (s : Step) (ss : List Statement) where
       short (suc k) [] h = refl
       short (suc k) (a ∷ ss) h = ap (after a) (short k ss (omega arith))
 
-  pub last_there : (spot : Spot) (old new : Parts) → spot.block.now ≡ ss → spot.from ≡ s.index
+  pub last_there : (spot : PieceStart) (old new : Parts) → spot.block.now ≡ ss → spot.from ≡ s.index
       → s.index + count ≤ length ss → new ≡ passed_all (take s.index ss) old
       → LeadsTo count (opened_in count (s ∷ []) (block ss)) (Some spot) old new
   last_there spot old new b f l e =
@@ -183,7 +183,7 @@ module _ (count : ℕ) (s t : Step) (path : Path) (ss : List Statement) where
       past_none (into t.branch find_next) s.index ss (omega arith)
       (ap (λ l. into t.branch find_next (block l)) d ∙ into_none find_next t.branch a (block (drop (s.index + 1) ss)) e)
 
-  pub step_leads : (a : Statement) (inner : Block) (found : Option Spot) (old middle new : Parts)
+  pub step_leads : (a : Statement) (inner : Block) (found : Option PieceStart) (old middle new : Parts)
       → s.index < length ss → drop s.index ss ≡ a ∷ drop (s.index + 1) ss
       → branch_of t.branch a ≡ Some inner
       → middle ≡ passed_all (take s.index ss) old

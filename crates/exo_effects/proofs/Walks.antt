@@ -9,7 +9,7 @@ use Rattle.exo_effects.specs.Uses as uses
 use Rattle.exo_effects.specs.Uses.{Use, in_branch, past_statement}
 use Rattle.exo_effects.specs.Parts.{passed_inside}
 use Rattle.exo_effects.specs.declared.inside.Inside.{Inside}
-use Rattle.exo_effects.specs.declared.inside.Site.{Site}
+use Rattle.exo_effects.specs.declared.inside.EffectSite.{EffectSite}
 use Rattle.exo_effects.specs.PlainParts.{parts_in}
 use Rattle.exo_effects.specs.declared.guards.Guard.{Guard}
 use Rattle.exo_effects.specs.PlainGuards.{facts_of, all_facts}
@@ -70,7 +70,7 @@ in_branch_by false guard fact at v f = λ i. record {
 
 -- ---- what is put so far, and what is left
 
-module _ (s : Site) where
+module _ (s : EffectSite) where
   pub walked_on : (out new whole : List Use) (at after : uses.Inside) (a : Statement) (xs : List Statement) (k to : ℕ)
       → k < to → drop k xs ≡ a ∷ drop (k + 1) xs
       → new ≡ out ++ step_uses s at a → after ≡ past_statement a at

@@ -16,7 +16,7 @@ use Rattle.exo_effects.specs.PlainGuards.{facts_of, all_facts}
 use Rattle.exo_effects.specs.PlainUses.{variables_of, all_variables}
 use Rattle.exo_effects.specs.declared.guards.Guard.{Guard}
 use Rattle.exo_effects.specs.declared.inside.Inside.{Inside}
-use Rattle.exo_effects.specs.declared.inside.Site.{Site}
+use Rattle.exo_effects.specs.declared.inside.EffectSite.{EffectSite}
 
 abbrev pub inside_of : Inside → uses.Inside
 inside_of at = record {
@@ -29,7 +29,7 @@ inside_of at = record {
 abbrev pub use_if : Bool → uses.Inside → Text → Part → meaning.Mode → List Use
 use_if had at text p mode = if had then use_of at text p mode ∷ [] else []
 
-module _ (s : Site) where
+module _ (s : EffectSite) where
   abbrev pub words_by : Words
   words_by = words_in s.words.now
 

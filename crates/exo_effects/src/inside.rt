@@ -17,7 +17,7 @@ use text_show::Words;
 
 /// The unit of a piece, the modes of its procedures, and the words of the piece's procedure.
 #[derive(Drop)]
-pub(crate) struct Site<'s, 'u> {
+pub(crate) struct EffectSite<'s, 'u> {
     pub(crate) unit: &'s Unit,
     pub(crate) modes: &'s ModeTable,
     pub(crate) words: &'s Words<'u>,

@@ -15,13 +15,13 @@ ghost use Rattle.exo_effects.specs.PlainUses.{plain_uses};
 use crate::access::{Access, Mode};
 use crate::inside::Inside;
 use crate::parts::Parts;
-use crate::piece::{Spot, find};
+use crate::piece::{PieceStart, find};
 use exo_tree::{Arg, Path, Proc, Stmt, Unit};
 use std::alloc::{AllocError, Global};
 use text_show::{Words, put_argument};
 
 /// What the statement at a spot passes, where it is a call.
-fn passed_at<'a>(spot: Spot<'a>) -> &'a [Arg]
+fn passed_at<'a>(spot: PieceStart<'a>) -> &'a [Arg]
     requires { spot.from + 1 ≤ length spot.block.now }
     ensures { map argument result.now ≡ call_arguments (block (slice_range spot.entry.block.now spot.entry.from (spot.entry.from + 1))) }
 {

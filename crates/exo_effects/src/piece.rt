@@ -14,7 +14,7 @@ ghost use Rattle.exo_effects.specs.PlainUses.{plain_uses};
 ghost use Rattle.exo_effects.specs.PlainWalk.{block_uses};
 
 use crate::access::Access;
-use crate::inside::{Inside, Site};
+use crate::inside::{EffectSite, Inside};
 use crate::parts::Parts;
 use crate::walk::walk_part;
 use exo_modes::ModeTable;
@@ -24,7 +24,7 @@ use text_show::Words;
 
 /// Where some statements stand: in a block, from an index on.
 #[derive(Clone, Copy)]
-pub(crate) struct Spot<'a> {
+pub(crate) struct PieceStart<'a> {
     pub(crate) block: &'a Block,
     pub(crate) from: usize,
 }
@@ -47,7 +47,7 @@ fn arrive<'a>(
     b: &'a Block,
     step: Step,
     count: usize,
-) -> Result<Option<Spot<'a>>, AllocError>
+) -> Result<Option<PieceStart<'a>>, AllocError>
     ensures { IfOk result
         (λ found. LeadsTo count (opened_in count (step_taken step ∷ []) (block b.now)) found
         (parts_in parts.old) (parts_in parts.new)) }
@@ -57,7 +57,7 @@ fn arrive<'a>(
         return Ok(None);
     }
     pass_first(alloc, parts, b, from)?;
-    Ok(Some(Spot { block: b, from }))
+    Ok(Some(PieceStart { block: b, from }))
 }
 
 /// Goes down to so many statements from a path on; None exactly where they are not there.
@@ -69,7 +69,7 @@ fn descend<'a>(
     step: Step,
     rest: &[Step],
     count: usize,
-) -> Result<Option<Spot<'a>>, AllocError>
+) -> Result<Option<PieceStart<'a>>, AllocError>
     ensures { IfOk result
         (λ found. LeadsTo count
         (opened_in count (step_taken step ∷ map step_taken rest.now) (block b.now)) found
@@ -96,7 +96,7 @@ pub(crate) fn find<'a>(
     body: &'a Block,
     path: &Path,
     count: usize,
-) -> Result<Option<Spot<'a>>, AllocError>
+) -> Result<Option<PieceStart<'a>>, AllocError>
     ensures { IfOk result
         (λ found. LeadsTo count (opened count path.now (block body.now)) found (parts_in parts.old)
         (parts_in parts.new)) }
@@ -113,9 +113,9 @@ pub(crate) fn find<'a>(
 /// The accesses of so many statements at a spot, where these names stand for these parts.
 fn accesses_at<'a>(
     alloc: Global,
-    site: &Site,
+    site: &EffectSite,
     parts: Parts,
-    spot: Spot<'a>,
+    spot: PieceStart<'a>,
     count: usize,
 ) -> Result<Vec<Access<'a>>, AllocError>
     requires within { spot.from + count ≤ length spot.block.now }
@@ -164,7 +164,7 @@ pub fn accesses<'a>(
         return Ok(Vec::new(alloc));
     };
     let words = Words::new(alloc, unit, p)?;
-    let site = Site {
+    let site = EffectSite {
         unit,
         modes,
         words: &words,

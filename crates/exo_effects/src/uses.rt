@@ -15,7 +15,7 @@ ghost use Rattle.std.specs.Prelude.{Some};
 ghost use Rattle.exo_tree.specs.Tree as tree;
 
 use crate::access::{Access, Mode};
-use crate::inside::{Inside, Site};
+use crate::inside::{EffectSite, Inside};
 use crate::parts::Part;
 use crate::windows::cell;
 use exo_modes::Modes;
@@ -27,7 +27,7 @@ use text_show::{put_access, put_argument};
 pub(crate) fn put_cell<'a>(
     alloc: Global,
     out: &mut Vec<Access<'a>>,
-    site: &Site,
+    site: &EffectSite,
     inside: &Inside<'a>,
     mode: Mode,
     x: Id,
@@ -54,7 +54,7 @@ pub(crate) fn put_cell<'a>(
 pub(crate) fn put_reads<'a>(
     alloc: Global,
     out: &mut Vec<Access<'a>>,
-    site: &Site,
+    site: &EffectSite,
     inside: &Inside<'a>,
     e: &DataExpr,
 ) -> Result<(), AllocError>
@@ -101,7 +101,7 @@ fn put_modes<'a>(
 fn put_passed<'a>(
     alloc: Global,
     out: &mut Vec<Access<'a>>,
-    site: &Site,
+    site: &EffectSite,
     inside: &Inside<'a>,
     has: Modes,
     a: &Arg,
@@ -124,7 +124,7 @@ fn put_passed<'a>(
 fn put_arguments<'a>(
     alloc: Global,
     out: &mut Vec<Access<'a>>,
-    site: &Site,
+    site: &EffectSite,
     inside: &Inside<'a>,
     callee: ProcId,
     params: &[Param],
@@ -147,7 +147,7 @@ fn put_arguments<'a>(
 pub(crate) fn put_call<'a>(
     alloc: Global,
     out: &mut Vec<Access<'a>>,
-    site: &Site,
+    site: &EffectSite,
     inside: &Inside<'a>,
     callee: ProcId,
     args: &Args,

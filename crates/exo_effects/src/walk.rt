@@ -7,7 +7,7 @@ ghost use Rattle.exo_effects.specs.PlainWalk.{inside_of, step_uses, block_uses, 
 
 use crate::access::{Access, Mode};
 use crate::guards::Guard;
-use crate::inside::{Inside, Site};
+use crate::inside::{EffectSite, Inside};
 use crate::plain::is_plain_condition;
 use crate::uses::{put_call, put_cell, put_reads};
 use exo_tree::{Block, Stmt};
@@ -18,7 +18,7 @@ use std::alloc::{AllocError, Global};
 pub(crate) fn walk_part<'a>(
     alloc: Global,
     out: &mut Vec<Access<'a>>,
-    site: &Site,
+    site: &EffectSite,
     inside: &mut Inside<'a>,
     b: &'a Block,
     from: usize,
@@ -47,7 +47,7 @@ pub(crate) fn walk_part<'a>(
 fn walk_under<'a>(
     alloc: Global,
     out: &mut Vec<Access<'a>>,
-    site: &Site,
+    site: &EffectSite,
     inside: &mut Inside<'a>,
     guard: Guard<'a>,
     says: bool,
@@ -71,7 +71,7 @@ fn walk_under<'a>(
 fn walk_statement<'a>(
     alloc: Global,
     out: &mut Vec<Access<'a>>,
-    site: &Site,
+    site: &EffectSite,
     inside: &mut Inside<'a>,
     s: &'a Stmt,
 ) -> Result<(), AllocError>

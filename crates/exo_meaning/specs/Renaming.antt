@@ -1,6 +1,7 @@
 -- Other ids for the names of a procedure.
 use Rattle.std.specs.Prelude.{◌≡◌, ℕ, List, option_map}
 use Rattle.exo_tree.specs.Tree.{Binder, Control, Condition, Datum, Coord, Argument, Statement, Block}
+use Rattle.exo_tree.specs.Tree.{ParamKind, Param}
 use Rattle.exo_tree.specs.Renaming as tree
 use Rattle.exo_meaning.specs.Scene.{Seen, Scene}
 use Rattle.exo_meaning.specs.State.{State, Place}
@@ -46,6 +47,12 @@ module _ (r : Renaming) where
 
   abbrev pub re_block : Block → Block
   re_block = tree.re_block r.to
+
+  abbrev pub re_kind : ParamKind → ParamKind
+  re_kind = tree.re_kind r.to
+
+  abbrev pub re_param : Param → Param
+  re_param = tree.re_param r.to
 
   abbrev pub re_seen : Seen → Seen
   re_seen seen = record { buffer = r.to seen.buffer; sides = seen.sides }

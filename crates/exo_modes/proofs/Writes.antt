@@ -5,7 +5,7 @@ use Rattle.exo_meaning.specs.Run.{is_root, roots_after, call_writes, call_to_wri
 use Rattle.exo_meaning.specs.Modes.{Writing, Reducing, Modes}
 use Rattle.exo_modes.specs.Marks.{block_marks, step_marks, call_marks, callees_by, writing}
 use Rattle.exo_modes.specs.Written.{world_by, block_writes}
-use Rattle.exo_modes.specs.declared.row.Row.{Row}
+use Rattle.exo_modes.specs.declared.row.ModesRow.{ModesRow}
 use Rattle.exo_modes.specs.Seen.{row_writes, rows_write, rows_say}
 use Rattle.exo_modes.proofs.Unions.{or_false}
 
@@ -63,11 +63,11 @@ module _ (ps : List Procedure) (ms : List Modes) where
     step_written root (View w x coords) y = refl
     step_written root (Call k args) y = call_written ps ms k root y args
 
-rows_written : (rows : List Row) → rows_write rows ≡ map writing (rows_say rows)
+rows_written : (rows : List ModesRow) → rows_write rows ≡ map writing (rows_say rows)
 rows_written [] = refl
 rows_written (r ∷ rows) = ap (λ l. row_writes r ∷ l) (rows_written rows)
 
 -- what the rows say to be written is written
-pub written_is : (ps : List Procedure) (rows : List Row) (root : ℕ → ℕ) (b : Block) → writing (block_marks ps (rows_say rows) root b) ≡ block_writes ps (rows_write rows) root b
+pub written_is : (ps : List Procedure) (rows : List ModesRow) (root : ℕ → ℕ) (b : Block) → writing (block_marks ps (rows_say rows) root b) ≡ block_writes ps (rows_write rows) root b
 written_is ps rows root b =
     (λ i y. sym (block_written ps (rows_say rows) root b y) i) ∙ ap (λ ws. block_writes ps ws root b) (sym (rows_written rows))

@@ -10,15 +10,15 @@ use std::collections::BTreeMap;
 
 /// How each buffer is touched, by its id; one that is not in the table is not touched.
 #[derive(Drop)]
-pub struct Row {
+pub struct ModesRow {
     table: BTreeMap<u32, Modes>,
 }
 
-impl Row {
-    pub(crate) fn new(alloc: Global) -> Row
+impl ModesRow {
+    pub(crate) fn new(alloc: Global) -> ModesRow
         ensures { row_says result ≡ no_modes }
     {
-        Row {
+        ModesRow {
             table: BTreeMap::new(alloc),
         }
     }

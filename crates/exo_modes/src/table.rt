@@ -7,15 +7,15 @@ ghost use Rattle.exo_modes.specs.Marks.{modes_of, param_modes, AreFirst};
 ghost use Rattle.exo_modes.specs.Seen.{says, row_says, table_says};
 
 use crate::mode::Modes;
-use crate::row::Row;
-use crate::walk::{Above, row_of};
+use crate::row::ModesRow;
+use crate::walk::{CallableModes, row_of};
 use exo_tree::{Id, ProcId, Unit};
 use std::alloc::{AllocError, Global};
 
 /// How each procedure of a unit touches its parameters, and the buffers that it makes.
 #[derive(Drop)]
 pub struct ModeTable {
-    rows: Vec<Row>,
+    rows: Vec<ModesRow>,
 }
 
 impl ModeTable {
@@ -38,7 +38,7 @@ impl ModeTable {
     {
         let procs = unit.procs.as_slice();
         for k in self.rows.len()..procs.len() {
-            let above = Above {
+            let above = CallableModes {
                 procs: &unit.procs,
                 rows: &self.rows,
             };

@@ -13,19 +13,19 @@ ghost use Rattle.exo_modes.specs.Seen.{row_says, rows_say, row_writes, rows_writ
 
 use crate::aliases::{Alias, root, set_root};
 use crate::mode::Modes;
-use crate::row::Row;
+use crate::row::ModesRow;
 use exo_tree::{Arg, Args, Block, DataExpr, Param, ProcId, Procs, Stmt};
 use std::alloc::{AllocError, Global};
 
 /// The procedures that may be called: the first ones, as many as there are rows, with what each touches.
 #[derive(Clone, Copy)]
-pub struct Above<'a> {
+pub struct CallableModes<'a> {
     pub procs: &'a Procs,
-    pub rows: &'a [Row],
+    pub rows: &'a [ModesRow],
 }
 
 /// Marks what an expression reads.
-fn mark_reads(row: &mut Row, aliases: &[Alias], e: &DataExpr) -> Result<(), AllocError>
+fn mark_reads(row: &mut ModesRow, aliases: &[Alias], e: &DataExpr) -> Result<(), AllocError>
     ensures { OnOk result (row_says row.new ≡ together (row_says row.old) (reads (roots_in aliases.now) (datum e.now))) }
 {
     match e {
@@ -60,9 +60,9 @@ fn mark_reads(row: &mut Row, aliases: &[Alias], e: &DataExpr) -> Result<(), Allo
 
 /// Marks what an argument touches, by what the callee does with its parameter.
 fn mark_argument(
-    row: &mut Row,
+    row: &mut ModesRow,
     aliases: &[Alias],
-    callee: &Row,
+    callee: &ModesRow,
     p: &Param,
     a: &Arg,
 ) -> Result<(), AllocError>
@@ -81,9 +81,9 @@ fn mark_argument(
 
 /// Marks what the arguments of a call touch.
 fn mark_arguments(
-    row: &mut Row,
+    row: &mut ModesRow,
     aliases: &[Alias],
-    callee: &Row,
+    callee: &ModesRow,
     params: &[Param],
     args: &[Arg],
 ) -> Result<(), AllocError>
@@ -101,8 +101,8 @@ fn mark_arguments(
 
 /// Marks what a call touches.
 fn mark_call(
-    above: &Above,
-    row: &mut Row,
+    above: &CallableModes,
+    row: &mut ModesRow,
     aliases: &[Alias],
     k: ProcId,
     args: &Args,
@@ -127,8 +127,8 @@ fn mark_call(
 /// Marks what a statement touches, and adds the name that it binds.
 #[cycle(walk)]
 fn walk_statement(
-    above: &Above,
-    row: &mut Row,
+    above: &CallableModes,
+    row: &mut ModesRow,
     aliases: &mut Vec<Alias>,
     s: &Stmt,
 ) -> Result<(), AllocError>
@@ -174,8 +174,8 @@ fn walk_statement(
 /// Marks what a block touches. Its names end with it.
 #[cycle(walk)]
 fn walk_block(
-    above: &Above,
-    row: &mut Row,
+    above: &CallableModes,
+    row: &mut ModesRow,
     aliases: &mut Vec<Alias>,
     b: &Block,
 ) -> Result<(), AllocError>
@@ -195,14 +195,14 @@ fn walk_block(
 }
 
 /// What the body of a procedure touches that calls those above.
-pub fn row_of(alloc: Global, above: &Above, body: &Block) -> Result<Row, AllocError>
+pub fn row_of(alloc: Global, above: &CallableModes, body: &Block) -> Result<ModesRow, AllocError>
     ensures says { IfOk result (λ r. row_says r ≡ block_marks above.now.procs.now (rows_say above.now.rows.now) (λ y. y) (block body.now)) }
     ensures writes { IfOk result
         (λ r. row_writes r
         ≡ block_writes above.now.procs.now (rows_write above.now.rows.now) (λ y. y)
         (block body.now)) }
 {
-    let mut row = Row::new(alloc);
+    let mut row = ModesRow::new(alloc);
     let mut aliases = Vec::new(alloc);
     walk_block(above, &mut row, &mut aliases, body)?;
     Ok(row)

@@ -17,7 +17,7 @@ use Rattle.text_lexer.specs.declared.token.Token.TheVariants.{Name, Sign, NewLin
 use Rattle.text_lexer.specs.declared.token.Sign.TheVariants.{OpenBracket, CloseBracket, Comma, Colon, Dot}
 use Rattle.text_expressions.specs.Values.{IsShortName, name}
 use Rattle.text_expressions.specs.Expression.{variable, operand, control, control_room, most_depth, sign, joins, HasPlace, FewDimensions, EndsList}
-use Rattle.text_expressions.specs.declared.source.Operator.{Operator}
+use Rattle.text_expressions.specs.declared.source.Infix.{Infix}
 use Rattle.text_expressions.proofs.Signs.{joins-sign}
 use Rattle.text_expressions.proofs.Chains.{begun_of_taken, taken_of_begun}
 use Rattle.text_expressions.proofs.Atoms.{taken_variable}
@@ -69,14 +69,14 @@ place : HasPlace (control_room most_depth)
 place = record { depth = omega arith; nodes = omega arith }
 
 -- a token that joins nothing is no operator's
-no_operator : (t : Token) (o : Operator) → joins t ≡ None → Some t ≡ Some (sign o) → ⊥
+no_operator : (t : Token) (o : Infix) → joins t ≡ None → Some t ≡ Some (sign o) → ⊥
 no_operator t o none same =
     let e : t ≡ sign o = cc (same) in
     let f : None ≡ Some o = sym none ∙ ap joins e ∙ joins-sign o in
     cc (f)
 
 -- a name behind which neither a field nor an index nor an operator stands
-alone : (n : List ℕ) (rest : List Token) → IsShortName n → (first rest ≡ Some (Sign Dot) → ⊥) → (first rest ≡ Some (Sign OpenBracket) → ⊥) → ((o : Operator) → first rest ≡ Some (sign o) → ⊥) → Taken control (Name n ∷ rest) (variable n) rest
+alone : (n : List ℕ) (rest : List Token) → IsShortName n → (first rest ≡ Some (Sign Dot) → ⊥) → (first rest ≡ Some (Sign OpenBracket) → ⊥) → ((o : Infix) → first rest ≡ Some (sign o) → ⊥) → Taken control (Name n ∷ rest) (variable n) rest
 alone n rest few dot bracket none = looser 0 (looser 1 (looser 2 (looser 3 (looser 4 (taken_variable (control_room most_depth) n rest place few dot bracket)))))
   where
     looser : (level : ℕ) → Taken (operand (suc level) (control_room most_depth)) (Name n ∷ rest) (variable n) rest → Taken (operand level (control_room most_depth)) (Name n ∷ rest) (variable n) rest

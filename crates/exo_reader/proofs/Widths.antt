@@ -13,8 +13,8 @@ use Rattle.text_lexer.specs.declared.token.Sign.TheVariants as s
 use Rattle.text_lexer.specs.declared.token.Word.TheVariants as w
 use Rattle.text_lexer.specs.declared.token.Decorator.TheVariants as d
 use Rattle.text_expressions.specs.Expression.{Tree, Trees, end, next, number, truth, variable, access, field, stride, relu, select, negative, parens, binary, sign, spelling, spelling_list, spelling_more, control}
-use Rattle.text_expressions.specs.declared.source.Operator.{Operator}
-use Rattle.text_expressions.specs.declared.source.Operator.TheVariants as o
+use Rattle.text_expressions.specs.declared.source.Infix.{Infix}
+use Rattle.text_expressions.specs.declared.source.Infix.TheVariants as o
 use Rattle.exo_reader.specs.Source as tree
 use Rattle.exo_reader.specs.Source.{Coordinate, point, span, Argument, value, window, TypeName, named, Statement, Block, Form, Parameter, Definition, ConfigField, Setting, Attribute, Item}
 use Rattle.exo_reader.specs.Parts.{spell_enclosed, dims, maybe_dims, type_name, maybe_memory, form, parameter}
@@ -73,7 +73,7 @@ all_few P each (t ∷ list) = both (each t) (all_few P each list)
 
 -- expressions
 
-sign_width : (operator : Operator) → 1 ≤ least_width (sign operator)
+sign_width : (operator : Infix) → 1 ≤ least_width (sign operator)
 sign_width o.Or = omega arith
 sign_width o.And = omega arith
 sign_width other = omega arith

@@ -11,8 +11,8 @@ use Rattle.text_phrases.proofs.Phrases.{keeps_all, keeps_map, keeps_both, goes_a
 use Rattle.text_phrases.proofs.Exits.{refuses_along}
 use Rattle.text_expressions.specs.Values.{name, IsShortName}
 use Rattle.text_expressions.specs.Expression.{Tree, Trees, end, next, trees, number, truth, variable, access, field, stride, relu, select, negative, parens, binary, sign, left_level, depth, deepest, count, IsShort, AreShort, IsSmall, AreSmall, HasIndex, Stands, AllStand, spelling, spelling_list, spelling_more, FollowsOperand, HasPlace, operand, FewDimensions}
-use Rattle.text_expressions.specs.declared.source.Operator.{Operator}
-use Rattle.text_expressions.specs.declared.source.Operator.TheVariants as o
+use Rattle.text_expressions.specs.declared.source.Infix.{Infix}
+use Rattle.text_expressions.specs.declared.source.Infix.TheVariants as o
 use Rattle.text_expressions.specs.declared.expression.Room.{Room}
 use Rattle.text_expressions.proofs.Levels.{level_at_most_four}
 use Rattle.text_lexer.specs.declared.token.Literal.TheVariants.{Value}
@@ -106,7 +106,7 @@ pub record Leftmost (e : Tree) (n : List ℕ) (y z : List Token) : Type 0 where
   pub small : IsSmall e → AreSmall list
   pub rest : z ≡ spelling_list list ++ (Sign CloseBracket ∷ (suffix ++ y))
 
-no_bracket_sign : (op : Operator) → Some (sign op) ≡ Some (Sign OpenBracket) → ⊥
+no_bracket_sign : (op : Infix) → Some (sign op) ≡ Some (Sign OpenBracket) → ⊥
 no_bracket_sign o.Or same = let e : sign o.Or ≡ Sign OpenBracket = cc (same) in cc (e)
 no_bracket_sign o.And same = let e : sign o.And ≡ Sign OpenBracket = cc (same) in cc (e)
 no_bracket_sign o.Lt same = cc (same)

@@ -26,3 +26,5 @@ pub mod Plain
 pub mod Mapped
 pub mod Substitution
 pub mod Renaming
+pub mod LookedFor
+pub mod Passed

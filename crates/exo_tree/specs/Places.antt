@@ -37,6 +37,11 @@ same_path [] (t ∷ q) = false
 same_path (s ∷ p) [] = false
 same_path (s ∷ p) (t ∷ q) = same_step s t && same_path p q
 
+-- so many statements from a path on
+pub record Piece : Type 0 where
+  pub path : Path
+  pub count : ℕ
+
 -- some statements of a block, and what is round them
 pub record Opened : Type 0 where
   pub around : Context

@@ -1,8 +1,9 @@
--- Other ids for the names of a block.
+-- Other ids for the names of a block or of parameters.
 use Rattle.std.specs.Prelude.{ℕ, ◌+◌, List, [], ◌∷◌, ◌++◌, eqb, if◌then◌else◌}
 use Rattle.exo_tree.specs.Tree.{Binder, Control, Var, Condition, Datum, Coord, Argument, Statement}
 use Rattle.exo_tree.specs.Tree.{Assign, Reduce, Config, Pass, If, For, Alloc, View, Call, Block}
-use Rattle.exo_tree.specs.Tree.{end, next}
+use Rattle.exo_tree.specs.Tree.{end, next, ParamKind, ControlParam, TensorParam, WindowParam}
+use Rattle.exo_tree.specs.Tree.{Param}
 use Rattle.exo_tree.specs.Mapped.{Leaves, mapped_control, mapped_controls, mapped_condition}
 use Rattle.exo_tree.specs.Mapped.{mapped_datum}
 use Rattle.exo_tree.specs.Mapped.{mapped_coord, mapped_coords, mapped_argument, mapped_arguments}
@@ -46,6 +47,14 @@ module _ (to : ℕ → ℕ) where
 
   abbrev pub re_block : Block → Block
   re_block = mapped_block (renaming to)
+
+  abbrev pub re_kind : ParamKind → ParamKind
+  re_kind (ControlParam kind) = ControlParam kind
+  re_kind (TensorParam cell dims memory) = TensorParam cell (re_controls dims) memory
+  re_kind (WindowParam cell dims memory) = WindowParam cell (re_controls dims) memory
+
+  abbrev pub re_param : Param → Param
+  re_param p = record { binder = re_binder p.binder; kind = re_kind p.kind }
 
 -- the ids of a block's binders, in preorder
 abbrev mutual

@@ -15,14 +15,14 @@ use Rattle.rules_names.specs.Faults.{least, unless}
 use Rattle.rules_names.specs.declared.error.TypeKind.TheVariants.{Redefined}
 use Rattle.rules_names.specs.Names.{name_number}
 use Rattle.text_lexer.specs.declared.place.Place.{Place}
-use Rattle.exo_modes.specs.declared.row.Row.{Row}
+use Rattle.exo_modes.specs.declared.row.ModesRow.{ModesRow}
 use Rattle.exo_modes.specs.Seen.{row_writes, rows_write}
 use Rattle.exo_modes.specs.Marks.{callee_by, callees_by}
 use Rattle.exo_modes.specs.Written.{block_writes}
 use Rattle.exo_types.specs.declared.context.Context.{Context}
 use Rattle.exo_types.specs.declared.definition.Defined.{Defined}
 use Rattle.exo_types.specs.declared.refusal.Refusal.{Refusal}
-use Rattle.exo_types.specs.declared.typed.Typed.{Typed}
+use Rattle.exo_types.specs.declared.typed.UnitBuilder.{UnitBuilder}
 use Rattle.exo_types.specs.ArgumentRules.{signature_of}
 use Rattle.exo_types.specs.StatementRules.{bound_in}
 use Rattle.exo_types.specs.ItemRules.{body_start, definition_end, definition_fault, definition_of}
@@ -42,7 +42,7 @@ use Rattle.exo_types.proofs.Writes.{signature_is}
 -- ---- names
 
 -- a name is given exactly where one of the tables has it
-pub in_tables : (t : Typed) (x : List ℕ) → Agrees t → is_given (program t.unit) x ≡ (is_some (name_number t.procedures x) || (is_some (name_number t.configurations x) || is_some (name_number t.memories x)))
+pub in_tables : (t : UnitBuilder) (x : List ℕ) → Agrees t → is_given (program t.unit) x ≡ (is_some (name_number t.procedures x) || (is_some (name_number t.configurations x) || is_some (name_number t.memories x)))
 in_tables t x a =
     λ i. (sym (ap (λ l. is_some (name_number l x)) a.procedures ∙ named (λ q. q.name) t.unit.procs x) i)
     || ((sym (a.configurations x) i) || (sym (ap (λ l. is_some (name_number l x)) a.memories ∙ named (λ m. m.name) t.unit.memories x) i))
@@ -67,7 +67,7 @@ pub not_given_alone : (b : Bool) (n : ℕ) → least (unless (not b) Redefined n
 not_given_alone true n h = cc
 not_given_alone false n h = refl
 
-module _ (t : Typed) (x : List ℕ) (a : Agrees t) (new : is_given (program t.unit) x ≡ false) where
+module _ (t : UnitBuilder) (x : List ℕ) (a : Agrees t) (new : is_given (program t.unit) x ≡ false) where
   in_none : (is_some (name_number t.procedures x) || (is_some (name_number t.configurations x) || is_some (name_number t.memories x))) ≡ false
   in_none = sym (in_tables t x a) ∙ new
 
@@ -84,15 +84,15 @@ module _ (t : Typed) (x : List ℕ) (a : Agrees t) (new : is_given (program t.un
   new_fields = ap (list_any (λ f. is_text f.config x)) a.fields ∙ sym (a.configurations x) ∙ first_false _ _ (second_false _ _ in_none)
 
 -- where one of the tables has a name, or the others do not
-pub given_first : (t : Typed) (x : List ℕ) → Agrees t → is_some (name_number t.procedures x) ≡ true → true ≡ is_given (program t.unit) x
+pub given_first : (t : UnitBuilder) (x : List ℕ) → Agrees t → is_some (name_number t.procedures x) ≡ true → true ≡ is_given (program t.unit) x
 given_first t x a h = sym (in_tables t x a ∙ ap (λ b. b || (is_some (name_number t.configurations x) || is_some (name_number t.memories x))) h)
 
-pub given_last : (t : Typed) (x : List ℕ) → Agrees t → is_some (name_number t.procedures x) ≡ false → is_some (name_number t.configurations x) ≡ false → is_some (name_number t.memories x) ≡ is_given (program t.unit) x
+pub given_last : (t : UnitBuilder) (x : List ℕ) → Agrees t → is_some (name_number t.procedures x) ≡ false → is_some (name_number t.configurations x) ≡ false → is_some (name_number t.memories x) ≡ is_given (program t.unit) x
 given_last t x a h k = sym (in_tables t x a ∙ (λ i. h i || (k i || is_some (name_number t.memories x))))
 
 -- ---- what stands above, in the tables
 
-module _ (t : Typed) (above : Above) (a : Agrees t) (s : Stands t above) where
+module _ (t : UnitBuilder) (above : Above) (a : Agrees t) (s : Stands t above) where
   pub same_fields : t.fields ≡ above.program.fields
   same_fields = a.fields ∙ ap (λ p. p.fields) s.program
 
@@ -141,7 +141,7 @@ signatures_more (q ∷ ps) [] p w h = absurd (omega (arith, h))
 signatures_more (q ∷ ps) (v ∷ ws) p w h = ap (λ l. record { params = q.params; writes = v } ∷ l) (signatures_more ps ws p w (omega (arith, h)))
 
 -- the signatures with a procedure more
-new_signatures : (t : Typed) (above : Above) (d : Definition) (p : Procedure) (row : Row) → Agrees t → Stands t above → row_writes row ≡ block_writes t.unit.procs (rows_write t.rows.items) (λ y. y) p.body → signatures_by (t.unit.procs ++ p ∷ []) (rows_write (t.rows.items ++ row ∷ [])) ≡ signatures (with_procedure above d p)
+new_signatures : (t : UnitBuilder) (above : Above) (d : Definition) (p : Procedure) (row : ModesRow) → Agrees t → Stands t above → row_writes row ≡ block_writes t.unit.procs (rows_write t.rows.items) (λ y. y) p.body → signatures_by (t.unit.procs ++ p ∷ []) (rows_write (t.rows.items ++ row ∷ [])) ≡ signatures (with_procedure above d p)
 new_signatures t above d p row a s w =
     let ps = t.unit.procs in
     let ws = rows_write t.rows.items in
@@ -157,7 +157,7 @@ pub few_ids : (n : ℕ) (d : Definition) → n + (length d.params + bound_in (bl
 few_ids n d = let a = params_few d.params in let b = few_bound_in (block_of d.body) in omega (arith, a, b)
 
 -- what stands above the next item
-module _ (t pushed after : Typed) (above : Above) (places : List Place) (template : Option (List ℕ)) (n : ℕ) (d : Definition) (made : Defined) (row : Row) (lines : ProcLines) where
+module _ (t pushed after : UnitBuilder) (above : Above) (places : List Place) (template : Option (List ℕ)) (n : ℕ) (d : Definition) (made : Defined) (row : ModesRow) (lines : ProcLines) where
   pub procedure_added : (end : ℕ) → Agrees t → IsFew t n → Stands t above → least (unless (not (is_given (program t.unit) d.name)) Redefined (n + 1)) ≡ None → IsHere above places template n made d → row_writes row ≡ block_writes t.unit.procs (rows_write t.rows.items) (λ y. y) (tree.block made.procedure.body) → lines ≡ record { def = line_at places n; statements = made.lines } → IsPushed t pushed d.name (plain.procedure made.procedure) row lines → after.unit ≡ pushed.unit → after.procedures ≡ pushed.procedures → after.memories ≡ pushed.memories → after.configurations ≡ pushed.configurations → after.fields ≡ pushed.fields → after.rows.items ≡ pushed.rows.items → after.next_id ≡ made.next_id → end ≡ made.end → IsProcedure above places t after template n end d
   procedure_added end a few s name here w is_lines p unit procedures memories configurations fields rows next_id is_end =
       let q = plain.procedure made.procedure in

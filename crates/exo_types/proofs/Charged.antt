@@ -7,8 +7,8 @@ use Rattle.exo_meaning.specs.Units.{Sort, ControlName, BufferName, Scope, Reads,
 use Rattle.text_lexer.specs.declared.token.Literal.{Literal}
 use Rattle.text_lexer.specs.declared.token.Token.TheVariants as t
 use Rattle.text_lexer.specs.declared.token.Sign.TheVariants as s
-use Rattle.text_expressions.specs.declared.source.Operator.{Operator}
-use Rattle.text_expressions.specs.declared.source.Operator.TheVariants as o
+use Rattle.text_expressions.specs.declared.source.Infix.{Infix}
+use Rattle.text_expressions.specs.declared.source.Infix.TheVariants as o
 use Rattle.text_expressions.specs.Expression.{Tree, Trees, number, truth, variable, access, field, stride, relu, select, negative, parens, binary, end, next, spelling, spelling_list, spelling_more}
 use Rattle.exo_reader.specs.Source.{Coordinate, point, span, Argument, value, window, TypeName}
 use Rattle.rules_names.specs.declared.error.TypeKind.{TypeKind}
@@ -105,7 +105,7 @@ width_negative : (e : Tree) → width (negative e) ≡ suc (width e)
 unfolding width
 width_negative e = refl
 
-width_binary : (operator : Operator) (l r : Tree) → width (binary operator l r) ≡ width l + suc (width r)
+width_binary : (operator : Infix) (l r : Tree) → width (binary operator l r) ≡ width l + suc (width r)
 unfolding width
 width_binary operator l r = length-append (spelling l) _
 
@@ -192,7 +192,7 @@ field_within wants may None n h = one k.UnknownName n h
 field_within true may (Some f) n h = also (tested (is_truth f.1) k.KindMismatch n h) (tested may k.ConfigPlace n h)
 field_within false may (Some f) n h = also (tested (not (is_truth f.1)) k.KindMismatch n h) (tested may k.ConfigPlace n h)
 
-affine_within : {hi : ℕ} (operator : Operator) (n right : ℕ) (vary divides : Bool) → n < hi → right < hi → Within hi (affine_faults operator n right vary divides)
+affine_within : {hi : ℕ} (operator : Infix) (n right : ℕ) (vary divides : Bool) → n < hi → right < hi → Within hi (affine_faults operator n right vary divides)
 affine_within o.Mul n right vary divides h j = tested (not vary) k.NotAffine n h
 affine_within o.Div n right vary divides h j = tested divides k.NotAffine right j
 affine_within o.Mod n right vary divides h j = tested divides k.NotAffine right j

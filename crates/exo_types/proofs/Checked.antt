@@ -12,7 +12,7 @@ use Rattle.exo_types.specs.Refusals.{Refuses}
 use Rattle.exo_types.specs.UnitRules.{unit_fault, items_width}
 use Rattle.exo_types.specs.UnitLines.{lines_of}
 use Rattle.exo_types.specs.Standing.{HasPlaces, IsUnitOf}
-use Rattle.exo_types.specs.Typed.{items_of, IsPlaced, IsTyped, IsBroken, IsRefused, IsInPlace, IsErrorOf}
+use Rattle.exo_types.specs.UnitBuilder.{items_of, IsPlaced, IsTyped, IsBroken, IsRefused, IsInPlace, IsErrorOf}
 use Rattle.exo_types.proofs.Spelled.{items_spelled}
 use Rattle.exo_types.proofs.Within.{unit_fault_within}
 

@@ -17,7 +17,7 @@ use Rattle.exo_modes.specs.Seen.{rows_write}
 use Rattle.exo_types.specs.declared.attribute.Trait.{Trait}
 use Rattle.exo_types.specs.declared.attribute.Trait.TheVariants.{Ctype, Lanes, CellType, MayRead, MayWrite, MayReduce, Header}
 use Rattle.exo_types.specs.declared.attribute.Trait.TheVariants as traits
-use Rattle.exo_types.specs.declared.typed.Typed.{Typed}
+use Rattle.exo_types.specs.declared.typed.UnitBuilder.{UnitBuilder}
 use Rattle.exo_types.specs.MemoryRules.{plain_memory, with_trait, with_attributes, trait_named, attributes_width, attributes_fault, lanes_faults}
 use Rattle.exo_types.specs.ItemRules.{field_of, fields_fault}
 use Rattle.exo_types.specs.UnitRules.{Above, is_given, item_name_faults}
@@ -43,18 +43,18 @@ attributes_name m [] = refl
 attributes_name m (a ∷ more) = attributes_name (with_trait m (trait_named a.name) a.value) more ∙ trait_name m (trait_named a.name) a.value
 
 -- what is charged at the name of a memory
-pub memory_charged : (t : Typed) (above : Above) → Agrees t → Stands t above → (c : Charge) (n : ℕ) (x : List ℕ) (settings : List Attribute) (own : Option Fault) (m : MemoryKind) → c ≡ charged (unless (not (is_given (program t.unit) x)) Redefined (n + 3) ++ lanes_faults own (n + 3) m) → own ≡ attributes_fault [] (n + 7) settings → m ≡ with_attributes (plain_memory x) settings → c.first ≡ least (item_name_faults above (n + 3) x ++ lanes_faults (attributes_fault [] (n + 7) settings) (n + 3) (with_attributes (plain_memory x) settings))
+pub memory_charged : (t : UnitBuilder) (above : Above) → Agrees t → Stands t above → (c : Charge) (n : ℕ) (x : List ℕ) (settings : List Attribute) (own : Option Fault) (m : MemoryKind) → c ≡ charged (unless (not (is_given (program t.unit) x)) Redefined (n + 3) ++ lanes_faults own (n + 3) m) → own ≡ attributes_fault [] (n + 7) settings → m ≡ with_attributes (plain_memory x) settings → c.first ≡ least (item_name_faults above (n + 3) x ++ lanes_faults (attributes_fault [] (n + 7) settings) (n + 3) (with_attributes (plain_memory x) settings))
 memory_charged t above a s c n x settings own m h o e = first_of c _ h ∙ (λ i. least (same_name_faults t above a s (n + 3) x i ++ lanes_faults (o i) (n + 3) (e i)))
 
 -- procedures and what goes with them are as before
-pub record KeepsProcedures (t after : Typed) : Type 0 where
+pub record KeepsProcedures (t after : UnitBuilder) : Type 0 where
   pub procs : after.unit.procs ≡ t.unit.procs
   pub lines : after.unit.lines ≡ t.unit.lines
   pub procedures : after.procedures ≡ t.procedures
   pub rows : after.rows.items ≡ t.rows.items
   pub next_id : after.next_id ≡ t.next_id
 
-module _ (t after : Typed) (above : Above) (places : List Place) (n end : ℕ) (a : Agrees t) (few : IsFew t n) (s : Stands t above) (k : KeepsProcedures t after) where
+module _ (t after : UnitBuilder) (above : Above) (places : List Place) (n end : ℕ) (a : Agrees t) (few : IsFew t n) (s : Stands t above) (k : KeepsProcedures t after) where
   same_signatures : signatures_by after.unit.procs (rows_write after.rows.items) ≡ signatures_by t.unit.procs (rows_write t.rows.items)
   same_signatures = λ i. signatures_by (k.procs i) (rows_write (k.rows i))
 

@@ -11,7 +11,7 @@ use Rattle.rules_names.specs.ExpressionRules.{width}
 use Rattle.rules_names.specs.Resolved.{condition_of}
 use Rattle.exo_modes.specs.Aliases.{roots_in}
 use Rattle.exo_types.specs.declared.context.Context.{Context}
-use Rattle.exo_types.specs.declared.context.Walk.{Walk}
+use Rattle.exo_types.specs.declared.context.ScopeState.{ScopeState}
 use Rattle.exo_types.specs.declared.definition.Defined.{Defined}
 use Rattle.exo_types.specs.declared.refusal.Refusal.{Refusal}
 use Rattle.exo_types.specs.Refusals.{Refuses}
@@ -60,7 +60,7 @@ goes_on a b c whole h e k = k ∙ ap (λ o. or_else o b) (sym e) ∙ h
 
 module _ (c : Context) where
   -- the walk has gone from token n, where the whole began, to token k, where the rest begins
-  pub record SoFar (first walk : Walk) (made : List Param) (n k : ℕ) (whole rest : List Parameter) : Type 0 where
+  pub record SoFar (first walk : ScopeState) (made : List Param) (n k : ℕ) (whole rest : List Parameter) : Type 0 where
     pub fault : params_fault c walk k rest ≡ params_fault c first n whole
     pub means : made ++ params_of c walk rest ≡ params_of c first whole
     pub width : k + spaced_params rest ≡ n + spaced_params whole
@@ -71,7 +71,7 @@ module _ (c : Context) where
     pub aliases : walk.aliases.items ≡ first.aliases.items
     pub lines : walk.lines ≡ first.lines
 
-  pub so_first : (first : Walk) (made : List Param) (n width : ℕ) (whole : List Parameter) → made ≡ [] → HasRoom c first n width → SoFar first first made n n whole whole
+  pub so_first : (first : ScopeState) (made : List Param) (n width : ℕ) (whole : List Parameter) → made ≡ [] → HasRoom c first n width → SoFar first first made n n whole whole
   so_first first made n width whole h room = record {
     fault = refl;
     means = ap (λ l. l ++ params_of c first whole) h;
@@ -85,7 +85,7 @@ module _ (c : Context) where
   }
 
   -- there is room for the parameter at hand
-  pub room_for : (first walk : Walk) (made : List Param) (n k : ℕ) (whole : List Parameter) (p : Parameter) (more : List Parameter) → HasRoom c first n (params_width whole) → SoFar first walk made n k whole (p ∷ more) → HasRoom c walk k (parameter_width p)
+  pub room_for : (first walk : ScopeState) (made : List Param) (n k : ℕ) (whole : List Parameter) (p : Parameter) (more : List Parameter) → HasRoom c first n (params_width whole) → SoFar first walk made n k whole (p ∷ more) → HasRoom c walk k (parameter_width p)
   room_for first walk made n k whole p more room f = record {
     ids = f.ids;
     tokens = let w = spaced_least whole in omega (arith, f.width, room.tokens);
@@ -96,7 +96,7 @@ module _ (c : Context) where
   }
 
   -- one more parameter
-  pub so_on : (first walk after : Walk) (made new : List Param) (n k m : ℕ) (whole : List Parameter) (p : Parameter) (more : List Parameter) (t : Param) → SoFar first walk made n k whole (p ∷ more) → IsParam c walk after t k p → m ≡ k + parameter_width p + 1 → new ≡ made ++ t ∷ [] → SoFar first after new n m whole more
+  pub so_on : (first walk after : ScopeState) (made new : List Param) (n k m : ℕ) (whole : List Parameter) (p : Parameter) (more : List Parameter) (t : Param) → SoFar first walk made n k whole (p ∷ more) → IsParam c walk after t k p → m ≡ k + parameter_width p + 1 → new ≡ made ++ t ∷ [] → SoFar first after new n m whole more
   so_on first walk after made new n k m whole p more t f step end' pushed =
       let fields = c.fields.now in
       let memories = c.memories.now in
@@ -119,7 +119,7 @@ module _ (c : Context) where
       }
 
   -- no parameter is left
-  pub all_made : (first walk after : Walk) (made : List Param) (n k : ℕ) (whole rest : List Parameter) → rest ≡ [] → SoFar first walk made n k whole rest → after.scope ≡ walk.scope → after.aliases.items ≡ walk.aliases.items → after.next_id ≡ walk.next_id → after.lines ≡ walk.lines → AreParams c first after made n whole
+  pub all_made : (first walk after : ScopeState) (made : List Param) (n k : ℕ) (whole rest : List Parameter) → rest ≡ [] → SoFar first walk made n k whole rest → after.scope ≡ walk.scope → after.aliases.items ≡ walk.aliases.items → after.next_id ≡ walk.next_id → after.lines ≡ walk.lines → AreParams c first after made n whole
   all_made first walk after made n k whole rest none f scope aliases ids lines = record {
     keeps = sym f.fault ∙ ap (params_fault c walk k) none;
     means = sym (append-nil made) ∙ ap (λ r. made ++ params_of c walk r) (sym none) ∙ f.means;
@@ -130,7 +130,7 @@ module _ (c : Context) where
   }
 
   -- the parameter at hand breaks a rule
-  pub refused_at : (first walk : Walk) (made : List Param) (n k : ℕ) (whole : List Parameter) (p : Parameter) (more : List Parameter) (e : Refusal) → SoFar first walk made n k whole (p ∷ more) → Refuses e (param_fault c walk k p) → Refuses e (params_fault c first n whole)
+  pub refused_at : (first walk : ScopeState) (made : List Param) (n k : ℕ) (whole : List Parameter) (p : Parameter) (more : List Parameter) (e : Refusal) → SoFar first walk made n k whole (p ∷ more) → Refuses e (param_fault c walk k p) → Refuses e (params_fault c first n whole)
   refused_at first walk made n k whole p more e f r = refuses_same e _ _ f.fault (refuses_first e _ _ r)
 
   -- ---- procedures
@@ -142,14 +142,14 @@ module _ (c : Context) where
   scope_in id d = scope_of [] (params_in id d)
 
   -- the walk that a procedure begins with
-  pub record IsFirst (walk : Walk) (id : ℕ) : Type 0 where
+  pub record IsFirst (walk : ScopeState) (id : ℕ) : Type 0 where
     pub scope : walk.scope ≡ []
     pub aliases : walk.aliases.items ≡ []
     pub ids : walk.next_id ≡ id
     pub lines : walk.lines ≡ []
 
   -- the walk behind the parameters
-  pub record IsBehind (walk : Walk) (made : List Param) (id n : ℕ) (d : Definition) : Type 0 where
+  pub record IsBehind (walk : ScopeState) (made : List Param) (id n : ℕ) (d : Definition) : Type 0 where
     pub keeps : rules.params_fault c.fields.now c.memories.now id [] (n + 3) d.params ≡ None
     pub means : made ≡ params_in id d
     pub scope : walk.scope ≡ scope_in id d
@@ -157,7 +157,7 @@ module _ (c : Context) where
     pub roots : roots_in walk.aliases.items ≡ (λ x. x)
     pub lines : walk.lines ≡ []
 
-  pub behind : (first walk : Walk) (made : List Param) (id n : ℕ) (d : Definition) → IsFirst first id → AreParams c first walk made (n + 3) d.params → IsBehind walk made id n d
+  pub behind : (first walk : ScopeState) (made : List Param) (id n : ℕ) (d : Definition) → IsFirst first id → AreParams c first walk made (n + 3) d.params → IsBehind walk made id n d
   behind first walk made id n d f a =
       let same : made ≡ params_in id d = a.means ∙ (λ i. rules.params_from c.fields.now c.memories.now (f.ids i) (f.scope i) d.params) in
       record {
@@ -169,23 +169,23 @@ module _ (c : Context) where
         lines = a.lines ∙ f.lines;
       }
 
-  pub refused_params : (first : Walk) (id n : ℕ) (d : Definition) (e : Refusal) → IsFirst first id → Refuses e (params_fault c first (n + 3) d.params) → Refuses e (definition_fault c id n d)
+  pub refused_params : (first : ScopeState) (id n : ℕ) (d : Definition) (e : Refusal) → IsFirst first id → Refuses e (params_fault c first (n + 3) d.params) → Refuses e (definition_fault c id n d)
   refused_params first id n d e f r = refuses_first e _ _ (refuses_same e _ _ (λ i. rules.params_fault c.fields.now c.memories.now (f.ids i) (f.scope i) (n + 3) d.params) r)
 
-  pub refused_asserts : (walk : Walk) (made : List Param) (id n k : ℕ) (d : Definition) (e : Refusal) → IsBehind walk made id n d → k ≡ asserts_start n d → Refuses e (asserts_fault c walk.scope k d.asserts) → Refuses e (definition_fault c id n d)
+  pub refused_asserts : (walk : ScopeState) (made : List Param) (id n k : ℕ) (d : Definition) (e : Refusal) → IsBehind walk made id n d → k ≡ asserts_start n d → Refuses e (asserts_fault c walk.scope k d.asserts) → Refuses e (definition_fault c id n d)
   refused_asserts walk made id n k d e b h r = refuses_second e _ _ b.keeps (refuses_first e _ _ (refuses_same e _ _ (λ i. asserts_fault c (b.scope i) (h i) d.asserts) r))
 
-  same_body : (walk : Walk) (made : List Param) (id n k : ℕ) (d : Definition) → IsBehind walk made id n d → k ≡ body_start n d → walks.block_fault c walk k (block_of d.body) ≡ statements.block_fault c.fields.now c.memories.now c.procedures.now (signatures_in c) (id + length (params_in id d)) (scope_in id d) (λ x. x) (body_start n d) (block_of d.body)
+  same_body : (walk : ScopeState) (made : List Param) (id n k : ℕ) (d : Definition) → IsBehind walk made id n d → k ≡ body_start n d → walks.block_fault c walk k (block_of d.body) ≡ statements.block_fault c.fields.now c.memories.now c.procedures.now (signatures_in c) (id + length (params_in id d)) (scope_in id d) (λ x. x) (body_start n d) (block_of d.body)
   same_body walk made id n k d b h = λ i. statements.block_fault c.fields.now c.memories.now c.procedures.now (signatures_in c) (b.ids i) (b.scope i) (b.roots i) (h i) (block_of d.body)
 
-  asserts_kept : (walk : Walk) (made : List Param) (id n k : ℕ) (d : Definition) (A : List tree.Condition) → IsBehind walk made id n d → k ≡ asserts_start n d → AreAsserts c walk.scope k A d.asserts → asserts_fault c (scope_in id d) (asserts_start n d) d.asserts ≡ None
+  asserts_kept : (walk : ScopeState) (made : List Param) (id n k : ℕ) (d : Definition) (A : List tree.Condition) → IsBehind walk made id n d → k ≡ asserts_start n d → AreAsserts c walk.scope k A d.asserts → asserts_fault c (scope_in id d) (asserts_start n d) d.asserts ≡ None
   asserts_kept walk made id n k d A b h a = (λ i. asserts_fault c (sym b.scope i) (sym h i) d.asserts) ∙ a.keeps
 
-  pub refused_body : (walk : Walk) (made : List Param) (id n j k : ℕ) (d : Definition) (A : List tree.Condition) (e : Refusal) → IsBehind walk made id n d → j ≡ asserts_start n d → AreAsserts c walk.scope j A d.asserts → k ≡ body_start n d → Refuses e (walks.block_fault c walk k (block_of d.body)) → Refuses e (definition_fault c id n d)
+  pub refused_body : (walk : ScopeState) (made : List Param) (id n j k : ℕ) (d : Definition) (A : List tree.Condition) (e : Refusal) → IsBehind walk made id n d → j ≡ asserts_start n d → AreAsserts c walk.scope j A d.asserts → k ≡ body_start n d → Refuses e (walks.block_fault c walk k (block_of d.body)) → Refuses e (definition_fault c id n d)
   refused_body walk made id n j k d A e b g a h r =
       refuses_second e _ _ b.keeps (refuses_second e _ _ (asserts_kept walk made id n j d A b g a) (refuses_same e _ _ (same_body walk made id n k d b h) r))
 
-  pub room_behind : (walk : Walk) (made : List Param) (id n k : ℕ) (d : Definition) → HasSpace c id n d → IsBehind walk made id n d → k ≡ body_start n d → HasRoom c walk k (block_width (block_of d.body))
+  pub room_behind : (walk : ScopeState) (made : List Param) (id n k : ℕ) (d : Definition) → HasSpace c id n d → IsBehind walk made id n d → k ≡ body_start n d → HasRoom c walk k (block_width (block_of d.body))
   room_behind walk made id n k d room b h =
       let few = params_few d.params in
       let count = params_count c.fields.now c.memories.now id [] d.params in
@@ -198,7 +198,7 @@ module _ (c : Context) where
         falls = subst (λ (x : ℕ × Scope). Falls x.0 x.1) (λ i. (sym (b.ids ∙ ap (λ l. id + l) count) i, sym b.scope i)) (params_fall c.fields.now c.memories.now id [] d.params tt);
       }
 
-  pub defined : (walk after : Walk) (id n j k : ℕ) (template : Option (List ℕ)) (d : Definition) (made : Defined) → IsBehind walk made.procedure.params id n d → j ≡ asserts_start n d → AreAsserts c walk.scope j made.procedure.asserts d.asserts → k ≡ body_start n d → IsBlock c walk after made.procedure.body k (block_of d.body) → made.procedure.name ≡ d.name → made.procedure.template ≡ template → made.lines ≡ after.lines → made.next_id ≡ after.next_id → made.end ≡ definition_end n d → IsDefined c id template n made d
+  pub defined : (walk after : ScopeState) (id n j k : ℕ) (template : Option (List ℕ)) (d : Definition) (made : Defined) → IsBehind walk made.procedure.params id n d → j ≡ asserts_start n d → AreAsserts c walk.scope j made.procedure.asserts d.asserts → k ≡ body_start n d → IsBlock c walk after made.procedure.body k (block_of d.body) → made.procedure.name ≡ d.name → made.procedure.template ≡ template → made.lines ≡ after.lines → made.next_id ≡ after.next_id → made.end ≡ definition_end n d → IsDefined c id template n made d
   defined walk after id n j k template d made b g a h body name temp lines next end' =
       record {
         keeps = none_of_both _ _ b.keeps (none_of_both _ _ (asserts_kept walk made.procedure.params id n j d made.procedure.asserts b g a) (sym (same_body walk made.procedure.params id n k d b h) ∙ body.keeps));

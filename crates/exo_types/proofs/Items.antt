@@ -6,7 +6,7 @@ use Rattle.text_lexer.specs.declared.place.Place.{Place}
 use Rattle.rules_names.specs.declared.fault.Fault.{Fault}
 use Rattle.rules_names.specs.Faults.{or_else}
 use Rattle.exo_types.specs.declared.refusal.Refusal.{Refusal}
-use Rattle.exo_types.specs.declared.typed.Typed.{Typed}
+use Rattle.exo_types.specs.declared.typed.UnitBuilder.{UnitBuilder}
 use Rattle.exo_types.specs.Refusals.{Refuses}
 use Rattle.exo_types.specs.UnitRules.{Above, nothing_above, item_fault, item_width, items_fault, items_width, after_item, after_items, unit_fault, unit_of}
 use Rattle.exo_types.specs.UnitLines.{lines_from, lines_of, lines_of_item}
@@ -14,7 +14,7 @@ use Rattle.exo_types.specs.Standing.{Agrees, IsFew, Stands, HasPlaces, IsAdded, 
 use Rattle.exo_types.proofs.Broken.{refuses_same, refuses_first}
 
 -- so many items have been added, and the next one begins at token k
-pub record Below (places : List Place) (t : Typed) (k : ℕ) (items rest : List Item) : Type 0 where
+pub record Below (places : List Place) (t : UnitBuilder) (k : ℕ) (items rest : List Item) : Type 0 where
   pub above : Above
   pub stands : Stands t above
   pub agrees : Agrees t
@@ -24,7 +24,7 @@ pub record Below (places : List Place) (t : Typed) (k : ℕ) (items rest : List 
   pub lines : t.unit.lines ++ lines_from places k rest ≡ lines_of places items
   pub width : k + items_width rest ≡ items_width items
 
-pub none_added : (places : List Place) (t : Typed) (items : List Item) → Agrees t → IsFew t 0 → Stands t nothing_above → t.unit.lines ≡ [] → Below places t 0 items items
+pub none_added : (places : List Place) (t : UnitBuilder) (items : List Item) → Agrees t → IsFew t 0 → Stands t nothing_above → t.unit.lines ≡ [] → Below places t 0 items items
 none_added places t items a f s l = record {
   above = nothing_above;
   stands = s;
@@ -39,7 +39,7 @@ none_added places t items a f s l = record {
 goes_on : (a b c whole : Option Fault) → or_else a b ≡ whole → a ≡ None → c ≡ b → c ≡ whole
 goes_on a b c whole h e k = k ∙ ap (λ o. or_else o b) (sym e) ∙ h
 
-pub one_added : (places : List Place) (t after : Typed) (k end : ℕ) (items : List Item) (i : Item) (more : List Item) (b : Below places t k items (i ∷ more)) → IsAdded b.above places t after k end i → Below places after end items more
+pub one_added : (places : List Place) (t after : UnitBuilder) (k end : ℕ) (items : List Item) (i : Item) (more : List Item) (b : Below places t k items (i ∷ more)) → IsAdded b.above places t after k end i → Below places after end items more
 one_added places t after k end items i more b s = record {
   above = after_item b.above i;
   stands = s.stands;
@@ -54,13 +54,13 @@ one_added places t after k end items i more b s = record {
   width = omega (arith, b.width, s.ends);
 }
 
-pub item_refused : (places : List Place) (t : Typed) (k : ℕ) (items : List Item) (i : Item) (more : List Item) (e : Refusal) (b : Below places t k items (i ∷ more)) → Refuses e (item_fault b.above k i) → Refuses e (unit_fault items)
+pub item_refused : (places : List Place) (t : UnitBuilder) (k : ℕ) (items : List Item) (i : Item) (more : List Item) (e : Refusal) (b : Below places t k items (i ∷ more)) → Refuses e (item_fault b.above k i) → Refuses e (unit_fault items)
 item_refused places t k items i more e b r = refuses_same e _ _ b.fault (refuses_first e _ _ r)
 
-pub places_for : (places : List Place) (t : Typed) (k : ℕ) (items : List Item) (i : Item) (more : List Item) → HasPlaces places (items_width items) → Below places t k items (i ∷ more) → HasPlaces places (k + item_width i)
+pub places_for : (places : List Place) (t : UnitBuilder) (k : ℕ) (items : List Item) (i : Item) (more : List Item) → HasPlaces places (items_width items) → Below places t k items (i ∷ more) → HasPlaces places (k + item_width i)
 places_for places t k items i more h b = record { tokens = omega (arith, h.tokens, b.width); few = h.few }
 
-pub all_added : (places : List Place) (t : Typed) (k : ℕ) (items rest : List Item) → rest ≡ [] → Below places t k items rest → IsUnitOf places items t.unit
+pub all_added : (places : List Place) (t : UnitBuilder) (k : ℕ) (items rest : List Item) → rest ≡ [] → Below places t k items rest → IsUnitOf places items t.unit
 all_added places t k items rest none b = record {
   keeps = sym b.fault ∙ ap (items_fault b.above k) none;
   program = b.stands.program ∙ sym (ap (λ r. (after_items b.above r).program) none) ∙ b.unit;

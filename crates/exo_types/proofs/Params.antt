@@ -7,7 +7,7 @@ use Rattle.text_expressions.specs.Expression.{Tree}
 use Rattle.exo_reader.specs.Source.{TypeName, plain, Parameter}
 use Rattle.rules_names.specs.ExpressionRules.{controls_faults}
 use Rattle.exo_types.specs.declared.context.Context.{Context}
-use Rattle.exo_types.specs.declared.context.Walk.{Walk}
+use Rattle.exo_types.specs.declared.context.ScopeState.{ScopeState}
 use Rattle.exo_types.specs.TypeRules.{binder, cell_faults, memory_faults}
 use Rattle.exo_types.specs.ArgumentRules.{dims_width}
 use Rattle.exo_types.specs.ItemRules.{form_faults, form_of, parameter_width}
@@ -23,7 +23,7 @@ dims_faults fields memories scope n type (d ∷ ds) m h = refl
 
 module _ (c : Context) where
   -- a parameter whose name is bound
-  pub is_param : (walk after : Walk) (n : ℕ) (b : tree.Binder) (p : Parameter) (y : List ℕ) (kind : tree.ParamKind) (sort : Sort) → param_fault c walk n p ≡ None → b ≡ binder walk.next_id y → y ≡ p.name → kind ≡ form_of c.fields.now c.memories.now walk.scope p.form p.memory → sort ≡ param_sort kind → after.scope ≡ with_name walk.scope (binder walk.next_id y) sort → after.next_id ≡ walk.next_id + 1 → after.aliases.items ≡ walk.aliases.items → after.lines ≡ walk.lines → IsParam c walk after (record { binder = b; kind = kind }) n p
+  pub is_param : (walk after : ScopeState) (n : ℕ) (b : tree.Binder) (p : Parameter) (y : List ℕ) (kind : tree.ParamKind) (sort : Sort) → param_fault c walk n p ≡ None → b ≡ binder walk.next_id y → y ≡ p.name → kind ≡ form_of c.fields.now c.memories.now walk.scope p.form p.memory → sort ≡ param_sort kind → after.scope ≡ with_name walk.scope (binder walk.next_id y) sort → after.next_id ≡ walk.next_id + 1 → after.aliases.items ≡ walk.aliases.items → after.lines ≡ walk.lines → IsParam c walk after (record { binder = b; kind = kind }) n p
   is_param walk after n b p y kind sort keeps is_b is_y is_kind is_sort scope ids aliases lines = record {
     keeps = keeps;
     means = λ i. record { binder = (is_b ∙ ap (binder walk.next_id) is_y) i; kind = is_kind i };
@@ -34,5 +34,5 @@ module _ (c : Context) where
   }
 
   -- it was put last
-  pub put : (before after : Walk) (old new : List tree.Param) (made : tree.Param) (n m : ℕ) (p : Parameter) → IsParam c before after made n p → new ≡ old ++ made ∷ [] → m ≡ n + parameter_width p → IsPut c before after old new n m p
+  pub put : (before after : ScopeState) (old new : List tree.Param) (made : tree.Param) (n m : ℕ) (p : Parameter) → IsParam c before after made n p → new ≡ old ++ made ∷ [] → m ≡ n + parameter_width p → IsPut c before after old new n m p
   put before after old new made n m p one last ends = record { made = made; one = one; last = last; ends = ends }

@@ -3,7 +3,7 @@ use Rattle.std.proofs.Common.{◌≡◌, ◌+◌, [], ◌∷◌, length, map, ap
 use Rattle.std.proofs.lemmas.List.{length-map, length-append}
 use Rattle.text_lexer.specs.Layout.{lexed, token_of, place_of, end_place}
 use Rattle.exo_reader.specs.Items.{unit}
-use Rattle.exo_types.specs.Typed.{items_of}
+use Rattle.exo_types.specs.UnitBuilder.{items_of}
 use Rattle.exo_types.specs.Laws.{ReadTextsArePlaced}
 
 pub placed : ReadTextsArePlaced

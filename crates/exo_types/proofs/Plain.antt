@@ -18,7 +18,7 @@ use Rattle.rules_names.specs.ExpressionRules.{width}
 use Rattle.rules_names.specs.Resolved.{controls_of, datum_of, field_number}
 use Rattle.exo_modes.specs.Aliases.{roots_in}
 use Rattle.exo_types.specs.declared.context.Context.{Context}
-use Rattle.exo_types.specs.declared.context.Walk.{Walk}
+use Rattle.exo_types.specs.declared.context.ScopeState.{ScopeState}
 use Rattle.exo_types.specs.TypeRules.{number_or}
 use Rattle.exo_types.specs.ArgumentRules.{Signature, dims_width, kind_value_of, arguments_of, params_of}
 use Rattle.exo_types.specs.StatementRules.{statement_width, bound, store_faults, callee_named, written_of}
@@ -47,7 +47,7 @@ written_width false x ds e = refl
 
 module _ (c : Context) where
   -- a statement that binds no name and has no blocks leaves the walk as it was
-  settled : (w : Walk) (t : tree.Statement) (n : ℕ) (s : Statement) → statement_fault c w n s ≡ or_else (own_fault c w n s) None → scope_after (statement_of c w s) w.scope ≡ w.scope → roots_after (statement_of c w s) (roots_in w.aliases.items) ≡ roots_in w.aliases.items → bound s ≡ 0 → inner_starts n s ≡ [] → own_fault c w n s ≡ None → t ≡ statement_of c w s → IsStatement c w w t n s
+  settled : (w : ScopeState) (t : tree.Statement) (n : ℕ) (s : Statement) → statement_fault c w n s ≡ or_else (own_fault c w n s) None → scope_after (statement_of c w s) w.scope ≡ w.scope → roots_after (statement_of c w s) (roots_in w.aliases.items) ≡ roots_in w.aliases.items → bound s ≡ 0 → inner_starts n s ≡ [] → own_fault c w n s ≡ None → t ≡ statement_of c w s → IsStatement c w w t n s
   settled w t n s plain scope roots none inner own made = record {
     keeps = plain ∙ ap (λ o. or_else o None) own;
     means = made;
@@ -58,26 +58,26 @@ module _ (c : Context) where
     lines = sym (append-nil w.lines) ∙ ap (λ l. w.lines ++ map (line_at c.places.now) l) (sym inner);
   }
 
-  pub passed : (w : Walk) (n : ℕ) → IsStatement c w w tree.Pass n pass
+  pub passed : (w : ScopeState) (n : ℕ) → IsStatement c w w tree.Pass n pass
   passed w n = settled w tree.Pass n pass refl refl refl refl refl refl refl
 
   -- a write of a cell
-  pub written_faults : (w : Walk) (n : ℕ) (reduces : Bool) (x : List ℕ) (ds : List Tree) (e : Tree) → own_faults c w n (stored reduces x ds e) ≡ store_faults c.fields.now w.scope n x ds e
+  pub written_faults : (w : ScopeState) (n : ℕ) (reduces : Bool) (x : List ℕ) (ds : List Tree) (e : Tree) → own_faults c w n (stored reduces x ds e) ≡ store_faults c.fields.now w.scope n x ds e
   written_faults w n true x ds e = refl
   written_faults w n false x ds e = refl
 
-  pub written : (w : Walk) (n : ℕ) (reduces : Bool) (x : List ℕ) (ds : List Tree) (e : Tree) (id : ℕ) (is : List tree.Control) (d : tree.Datum) → own_fault c w n (stored reduces x ds e) ≡ None → id ≡ id_in w.scope x → is ≡ controls_of c.fields.now w.scope ds → d ≡ datum_of c.fields.now w.scope e → IsStatement c w w (stored_tree reduces id is d) n (stored reduces x ds e)
+  pub written : (w : ScopeState) (n : ℕ) (reduces : Bool) (x : List ℕ) (ds : List Tree) (e : Tree) (id : ℕ) (is : List tree.Control) (d : tree.Datum) → own_fault c w n (stored reduces x ds e) ≡ None → id ≡ id_in w.scope x → is ≡ controls_of c.fields.now w.scope ds → d ≡ datum_of c.fields.now w.scope e → IsStatement c w w (stored_tree reduces id is d) n (stored reduces x ds e)
   written w n true x ds e id is d own a b f = settled w (tree.Reduce id is d) n (reduce x ds e) refl refl refl refl refl own (λ i. tree.Reduce (a i) (b i) (f i))
   written w n false x ds e id is d own a b f = settled w (tree.Assign id is d) n (assign x ds e) refl refl refl refl refl own (λ i. tree.Assign (a i) (b i) (f i))
 
   -- a field that there is
-  pub configured : (w : Walk) (n : ℕ) (x y : List ℕ) (e : Tree) (f : ℕ × Kind) (a : tree.Argument) → field_in c.fields.now x y ≡ Some f → own_fault c w n (configure x y e) ≡ None → a ≡ kind_value_of c.fields.now w.scope f.1 e → IsStatement c w w (tree.Config f.0 a) n (configure x y e)
+  pub configured : (w : ScopeState) (n : ℕ) (x y : List ℕ) (e : Tree) (f : ℕ × Kind) (a : tree.Argument) → field_in c.fields.now x y ≡ Some f → own_fault c w n (configure x y e) ≡ None → a ≡ kind_value_of c.fields.now w.scope f.1 e → IsStatement c w w (tree.Config f.0 a) n (configure x y e)
   configured w n x y e f a found own h =
       settled w (tree.Config f.0 a) n (configure x y e) refl refl refl refl refl own
       ((λ i. tree.Config f.0 (h i)) ∙ (λ i. tree.Config (field_number (sym found i)) (written_of c.fields.now (sym found i) w.scope e)))
 
   -- a procedure that there is
-  pub called : (w : Walk) (n : ℕ) (x : List ℕ) (args : List source.Argument) (trailing : Bool) (k : ℕ) (f : Signature) (made : List tree.Argument) → name_number c.procedures.now x ≡ Some k → slice_get (signatures_in c) k ≡ Some f → own_fault c w n (call x args trailing) ≡ None → made ≡ arguments_of c.fields.now w.scope f.params args → IsStatement c w w (tree.Call k made) n (call x args trailing)
+  pub called : (w : ScopeState) (n : ℕ) (x : List ℕ) (args : List source.Argument) (trailing : Bool) (k : ℕ) (f : Signature) (made : List tree.Argument) → name_number c.procedures.now x ≡ Some k → slice_get (signatures_in c) k ≡ Some f → own_fault c w n (call x args trailing) ≡ None → made ≡ arguments_of c.fields.now w.scope f.params args → IsStatement c w w (tree.Call k made) n (call x args trailing)
   called w n x args trailing k f made found seen own h =
       settled w (tree.Call k made) n (call x args trailing) refl refl refl refl refl own
       ((λ i. tree.Call k (h i)) ∙ (λ i. tree.Call (number_or no_id (sym found i)) (arguments_of c.fields.now w.scope (params_of (sym (callee_found c x k (Some f) found seen) i)) args)))

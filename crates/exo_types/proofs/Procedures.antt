@@ -6,7 +6,7 @@ use Rattle.exo_reader.specs.Source.{Definition, procedure, instruction}
 use Rattle.exo_reader.specs.Items.{joined}
 use Rattle.rules_names.specs.Faults.{least}
 use Rattle.exo_types.specs.declared.refusal.Refusal.{Refusal}
-use Rattle.exo_types.specs.declared.typed.Typed.{Typed}
+use Rattle.exo_types.specs.declared.typed.UnitBuilder.{UnitBuilder}
 use Rattle.exo_types.specs.Refusals.{Refuses}
 use Rattle.exo_types.specs.ItemRules.{definition_end}
 use Rattle.exo_types.specs.UnitRules.{Above, procedure_here, procedure_fault, with_procedure, template_faults, item_fault}
@@ -15,17 +15,17 @@ use Rattle.exo_types.specs.Standing.{Agrees, IsFew, HasPlaces, Stands, IsProcedu
 use Rattle.exo_types.proofs.Broken.{refuses_second, none_of_both}
 use Rattle.exo_types.proofs.Added.{few_ids}
 
-pub few_later : (t : Typed) (n m : ℕ) → n ≤ m → IsFew t n → IsFew t m
+pub few_later : (t : UnitBuilder) (n m : ℕ) → n ≤ m → IsFew t n → IsFew t m
 few_later t n m h f = record { ids = omega (arith, h, f.ids); procedures = omega (arith, h, f.procedures); fields = omega (arith, h, f.fields); memories = omega (arith, h, f.memories) }
 
 -- the tables are short
-pub few_memories : (t : Typed) (places : List Place) (n : ℕ) (d : Definition) → Agrees t → IsFew t n → HasPlaces places (definition_end n d) → length t.memories ≤ 4294967295
+pub few_memories : (t : UnitBuilder) (places : List Place) (n : ℕ) (d : Definition) → Agrees t → IsFew t n → HasPlaces places (definition_end n d) → length t.memories ≤ 4294967295
 few_memories t places n d a f h = omega (arith, ap length a.memories, length-map t.unit.memories (λ m. m.name), f.memories, h.tokens, h.few, few_ids n d)
 
-pub few_procedures : (t : Typed) (places : List Place) (n : ℕ) (d : Definition) → Agrees t → IsFew t n → HasPlaces places (definition_end n d) → length t.procedures ≤ 4294967295
+pub few_procedures : (t : UnitBuilder) (places : List Place) (n : ℕ) (d : Definition) → Agrees t → IsFew t n → HasPlaces places (definition_end n d) → length t.procedures ≤ 4294967295
 few_procedures t places n d a f h = omega (arith, ap length a.procedures, length-map t.unit.procs (λ q. q.name), f.procedures, h.tokens, h.few, few_ids n d)
 
-module _ (above : Above) (places : List Place) (t after : Typed) (n : ℕ) (d : Definition) where
+module _ (above : Above) (places : List Place) (t after : UnitBuilder) (n : ℕ) (d : Definition) where
   as_procedure : (end : ℕ) → IsProcedure above places t after None (n + 2) end d → IsAdded above places t after n end (procedure d)
   as_procedure end p = record {
     keeps = p.keeps;

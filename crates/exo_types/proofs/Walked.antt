@@ -11,7 +11,7 @@ use Rattle.rules_names.specs.declared.fault.Fault.{Fault}
 use Rattle.rules_names.specs.Faults.{or_else}
 use Rattle.exo_modes.specs.Aliases.{roots_in}
 use Rattle.exo_types.specs.declared.context.Context.{Context}
-use Rattle.exo_types.specs.declared.context.Walk.{Walk}
+use Rattle.exo_types.specs.declared.context.ScopeState.{ScopeState}
 use Rattle.exo_types.specs.ArgumentRules.{Signature}
 use Rattle.exo_types.specs.StatementRules as rules
 use Rattle.exo_types.specs.StatementRules.{statement_width, block_width, bound, bound_in}
@@ -94,7 +94,7 @@ falls_after fields memories above signatures id scope (view w x cs) f = (omega a
 
 module _ (c : Context) where
   -- the walk has gone from token n, where the whole began, to token k, where the rest begins
-  pub record SoFar (first walk : Walk) (made : List tree.Statement) (n k : ℕ) (whole rest : Block) : Type 0 where
+  pub record SoFar (first walk : ScopeState) (made : List tree.Statement) (n k : ℕ) (whole rest : Block) : Type 0 where
     pub fault : block_fault c walk k rest ≡ block_fault c first n whole
     pub means : joined (tree.block made) (block_of c walk rest) ≡ block_of c first whole
     pub width : k + block_width rest ≡ n + block_width whole
@@ -108,10 +108,10 @@ module _ (c : Context) where
     pub long : length first.aliases.items ≤ length walk.aliases.items
 
   -- a walk with these lines
-  abbrev pub with_lines : Walk → List ℕ → Walk
+  abbrev pub with_lines : ScopeState → List ℕ → ScopeState
   with_lines walk l = record walk { lines = l }
 
-  pub so_first : (first : Walk) (made : List tree.Statement) (n : ℕ) (whole : Block) → made ≡ [] → HasRoom c first n (block_width whole) → SoFar first first made n n whole whole
+  pub so_first : (first : ScopeState) (made : List tree.Statement) (n : ℕ) (whole : Block) → made ≡ [] → HasRoom c first n (block_width whole) → SoFar first first made n n whole whole
   so_first first made n whole h room = record {
     fault = refl;
     means = ap (λ l. joined (tree.block l) (block_of c first whole)) h;
@@ -127,7 +127,7 @@ module _ (c : Context) where
   }
 
   -- there is room for the statement at hand
-  pub room_for : (first walk : Walk) (l : List ℕ) (made : List tree.Statement) (n k : ℕ) (whole : Block) (s : Statement) (more : Block) → HasRoom c first n (block_width whole) → SoFar first walk made n k whole (next s more) → HasRoom c (with_lines walk l) k (statement_width s)
+  pub room_for : (first walk : ScopeState) (l : List ℕ) (made : List tree.Statement) (n k : ℕ) (whole : Block) (s : Statement) (more : Block) → HasRoom c first n (block_width whole) → SoFar first walk made n k whole (next s more) → HasRoom c (with_lines walk l) k (statement_width s)
   room_for first walk l made n k whole s more room f = record {
     ids = f.ids;
     tokens = omega (arith, f.width, room.tokens);
@@ -138,7 +138,7 @@ module _ (c : Context) where
   }
 
   -- one more statement
-  pub so_on : (first walk after : Walk) (l : List ℕ) (made new : List tree.Statement) (n k m : ℕ) (whole : Block) (s : Statement) (more : Block) (t : tree.Statement) → SoFar first walk made n k whole (next s more) → l ≡ walk.lines ++ line_at c.places.now k ∷ [] → IsStatement c (with_lines walk l) after t k s → m ≡ k + statement_width s → new ≡ made ++ t ∷ [] → SoFar first after new n m whole more
+  pub so_on : (first walk after : ScopeState) (l : List ℕ) (made new : List tree.Statement) (n k m : ℕ) (whole : Block) (s : Statement) (more : Block) (t : tree.Statement) → SoFar first walk made n k whole (next s more) → l ≡ walk.lines ++ line_at c.places.now k ∷ [] → IsStatement c (with_lines walk l) after t k s → m ≡ k + statement_width s → new ≡ made ++ t ∷ [] → SoFar first after new n m whole more
   so_on first walk after l made new n k m whole s more t f told step end' pushed =
       let scope : after.scope ≡ scope_after (statement_of c walk s) walk.scope = step.scope ∙ ap (λ u. scope_after u walk.scope) step.means in
       let roots : roots_in after.aliases.items ≡ roots_after (statement_of c walk s) (roots_in walk.aliases.items) = step.roots ∙ ap (λ u. roots_after u (roots_in walk.aliases.items)) step.means in
@@ -166,7 +166,7 @@ module _ (c : Context) where
       }
 
   -- no statement is left
-  pub ended : (first walk after : Walk) (made : List tree.Statement) (n k : ℕ) (whole : Block) → SoFar first walk made n k whole end → after.scope ≡ first.scope → after.aliases.items ≡ first.aliases.items → after.next_id ≡ walk.next_id → after.lines ≡ walk.lines → IsBlock c first after made n whole
+  pub ended : (first walk after : ScopeState) (made : List tree.Statement) (n k : ℕ) (whole : Block) → SoFar first walk made n k whole end → after.scope ≡ first.scope → after.aliases.items ≡ first.aliases.items → after.next_id ≡ walk.next_id → after.lines ≡ walk.lines → IsBlock c first after made n whole
   ended first walk after made n k whole f scope aliases ids lines = record {
     keeps = sym f.fault;
     means = sym (joined_end made) ∙ f.means;
@@ -177,5 +177,5 @@ module _ (c : Context) where
   }
 
   -- a statement that was put last
-  pub put : (before after : Walk) (old new : List tree.Statement) (made : tree.Statement) (n m : ℕ) (s : Statement) → IsStatement c before after made n s → new ≡ old ++ made ∷ [] → m ≡ n + statement_width s → IsPut c before after old new n m s
+  pub put : (before after : ScopeState) (old new : List tree.Statement) (made : tree.Statement) (n m : ℕ) (s : Statement) → IsStatement c before after made n s → new ≡ old ++ made ∷ [] → m ≡ n + statement_width s → IsPut c before after old new n m s
   put before after old new made n m s one last ends = record { made = made; one = one; last = last; ends = ends }

@@ -10,7 +10,7 @@ use Rattle.rules_names.specs.Faults.{least}
 use Rattle.rules_names.specs.ExpressionRules.{condition_faults}
 use Rattle.rules_names.specs.Resolved.{condition_of}
 use Rattle.exo_types.specs.declared.context.Context.{Context}
-use Rattle.exo_types.specs.declared.context.Walk.{Walk}
+use Rattle.exo_types.specs.declared.context.ScopeState.{ScopeState}
 use Rattle.exo_types.specs.declared.definition.Defined.{Defined}
 use Rattle.exo_types.specs.TypeRules.{binder_faults}
 use Rattle.exo_types.specs.StatementRules.{bound_in}
@@ -30,19 +30,19 @@ pub record HasSpace (c : Context) (id n : ℕ) (d : Definition) : Type 0 where
 module _ (c : Context) where
   -- ---- what the rules say
 
-  abbrev pub param_faults : Walk → ℕ → Parameter → List Fault
+  abbrev pub param_faults : ScopeState → ℕ → Parameter → List Fault
   param_faults w n p = binder_faults w.scope n p.name ++ rules.form_faults c.fields.now c.memories.now w.scope (n + 2) p.form p.memory
 
-  abbrev pub param_fault : Walk → ℕ → Parameter → Option Fault
+  abbrev pub param_fault : ScopeState → ℕ → Parameter → Option Fault
   param_fault w n p = least (param_faults w n p)
 
-  abbrev pub param_of : Walk → Parameter → tree.Param
+  abbrev pub param_of : ScopeState → Parameter → tree.Param
   param_of w p = rules.param_of c.fields.now c.memories.now w.next_id w.scope p
 
-  abbrev pub params_fault : Walk → ℕ → List Parameter → Option Fault
+  abbrev pub params_fault : ScopeState → ℕ → List Parameter → Option Fault
   params_fault w n ps = rules.params_fault c.fields.now c.memories.now w.next_id w.scope n ps
 
-  abbrev pub params_of : Walk → List Parameter → List tree.Param
+  abbrev pub params_of : ScopeState → List Parameter → List tree.Param
   params_of w ps = rules.params_from c.fields.now c.memories.now w.next_id w.scope ps
 
   -- an assertion, and several
@@ -61,7 +61,7 @@ module _ (c : Context) where
   -- ---- what a walk makes
 
   -- a parameter breaks no rule, and this is its tree; behind it its name is in scope
-  pub record IsParam (before after : Walk) (made : tree.Param) (n : ℕ) (p : Parameter) : Type 0 where
+  pub record IsParam (before after : ScopeState) (made : tree.Param) (n : ℕ) (p : Parameter) : Type 0 where
     pub keeps : param_fault before n p ≡ None
     pub means : made ≡ param_of before p
     pub scope : after.scope ≡ rules.with_param c.fields.now c.memories.now before.scope made
@@ -70,14 +70,14 @@ module _ (c : Context) where
     pub lines : after.lines ≡ before.lines
 
   -- it is put last, and the token behind it has that number
-  pub record IsPut (before after : Walk) (old new : List tree.Param) (n end : ℕ) (p : Parameter) : Type 0 where
+  pub record IsPut (before after : ScopeState) (old new : List tree.Param) (n end : ℕ) (p : Parameter) : Type 0 where
     pub made : tree.Param
     pub one : IsParam before after made n p
     pub last : new ≡ old ++ made ∷ []
     pub ends : end ≡ n + parameter_width p
 
   -- the same of several, one after another
-  pub record AreParams (before after : Walk) (made : List tree.Param) (n : ℕ) (ps : List Parameter) : Type 0 where
+  pub record AreParams (before after : ScopeState) (made : List tree.Param) (n : ℕ) (ps : List Parameter) : Type 0 where
     pub keeps : params_fault before n ps ≡ None
     pub means : made ≡ params_of before ps
     pub scope : after.scope ≡ scope_of before.scope made

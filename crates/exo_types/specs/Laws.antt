@@ -10,7 +10,7 @@ use Rattle.exo_reader.specs.Items.{unit}
 use Rattle.exo_reader.specs.Texts.{tokens_of, places_of}
 use Rattle.exo_reader.specs.declared.unit.Source.{Source}
 use Rattle.exo_types.specs.ArgumentRules.{signature_of}
-use Rattle.exo_types.specs.Typed.{IsPlaced, items_of}
+use Rattle.exo_types.specs.UnitBuilder.{IsPlaced, items_of}
 use Rattle.exo_types.specs.UnitRules.{items_width}
 
 -- items of the grammar have as many tokens as their widths say

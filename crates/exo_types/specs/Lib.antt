@@ -6,7 +6,7 @@ pub mod StatementRules
 pub mod ItemRules
 pub mod UnitRules
 pub mod UnitLines
-pub mod Typed
+pub mod UnitBuilder
 pub mod Refusals
 pub mod Seen
 pub mod Walks

@@ -16,10 +16,10 @@ use Rattle.rules_names.specs.declared.fault.Fault.{Fault}
 use Rattle.rules_names.specs.declared.error.TypeKind.TheVariants.{Redefined}
 use Rattle.rules_names.specs.Faults.{unless, least}
 use Rattle.rules_names.specs.Names.{name_number, field_in}
-use Rattle.exo_modes.specs.declared.row.Row.{Row}
+use Rattle.exo_modes.specs.declared.row.ModesRow.{ModesRow}
 use Rattle.exo_modes.specs.Seen.{rows_write}
 use Rattle.exo_types.specs.declared.definition.Defined.{Defined}
-use Rattle.exo_types.specs.declared.typed.Typed.{Typed}
+use Rattle.exo_types.specs.declared.typed.UnitBuilder.{UnitBuilder}
 use Rattle.exo_types.specs.TypeRules.{kind_faults}
 use Rattle.exo_types.specs.StatementRules.{bound_in}
 use Rattle.exo_types.specs.ItemRules.{body_start, definition_end, definition_fault}
@@ -31,7 +31,7 @@ use Rattle.exo_types.specs.UnitLines.{lines_of}
 use Rattle.exo_types.specs.Walks.{signatures_by}
 
 -- the tables hold the names of the unit
-pub record Agrees (t : Typed) : Type 0 where
+pub record Agrees (t : UnitBuilder) : Type 0 where
   pub procedures : t.procedures ≡ map (λ q. q.name) t.unit.procs
   pub memories : t.memories ≡ map (λ m. m.name) t.unit.memories
   pub fields : t.fields ≡ t.unit.fields
@@ -41,14 +41,14 @@ pub record Agrees (t : Typed) : Type 0 where
   pub rows : length t.rows.items ≡ length t.unit.procs
 
 -- each name takes a token of its own, but for that of the memory that is always there
-pub record IsFew (t : Typed) (n : ℕ) : Type 0 where
+pub record IsFew (t : UnitBuilder) (n : ℕ) : Type 0 where
   pub ids : t.next_id ≤ n
   pub procedures : length t.unit.procs ≤ n
   pub fields : length t.unit.fields ≤ n
   pub memories : length t.unit.memories ≤ n + 1
 
 -- the unit so far is that above, and its procedures have these signatures
-pub record Stands (t : Typed) (above : Above) : Type 0 where
+pub record Stands (t : UnitBuilder) (above : Above) : Type 0 where
   pub program : program t.unit ≡ above.program
   pub signatures : signatures_by t.unit.procs (rows_write t.rows.items) ≡ signatures above
   pub next_id : t.next_id ≡ above.next_id
@@ -85,7 +85,7 @@ pub record IsHere (above : Above) (places : List Place) (template : Option (List
   pub end : made.end ≡ definition_end n d
 
 -- it is put last, with its name, what it writes and its lines; all else is the same
-pub record IsPushed (t after : Typed) (name : List ℕ) (p : Procedure) (row : Row)
+pub record IsPushed (t after : UnitBuilder) (name : List ℕ) (p : Procedure) (row : ModesRow)
     (lines : ProcLines) : Type 0 where
   pub procedures : after.unit.procs ≡ t.unit.procs ++ p ∷ []
   pub fields : after.unit.fields ≡ t.unit.fields
@@ -99,7 +99,7 @@ pub record IsPushed (t after : Typed) (name : List ℕ) (p : Procedure) (row : R
   pub next_id : after.next_id ≡ t.next_id
 
 -- so it stands above what follows
-pub record IsProcedure (above : Above) (places : List Place) (t after : Typed)
+pub record IsProcedure (above : Above) (places : List Place) (t after : UnitBuilder)
     (template : Option (List ℕ)) (n end : ℕ) (d : Definition) : Type 0 where
   pub keeps : procedure_fault above n d ≡ None
   pub ends : end ≡ definition_end n d
@@ -111,7 +111,7 @@ pub record IsProcedure (above : Above) (places : List Place) (t after : Typed)
 -- ---- items
 
 -- an item breaks no rule, and what it adds stands above the next one, which begins at token end
-pub record IsAdded (above : Above) (places : List Place) (t after : Typed) (n end : ℕ)
+pub record IsAdded (above : Above) (places : List Place) (t after : UnitBuilder) (n end : ℕ)
     (i : Item) : Type 0 where
   pub keeps : item_fault above n i ≡ None
   pub ends : end ≡ n + item_width i

@@ -13,7 +13,7 @@ use Rattle.rules_names.specs.Faults.{least}
 use Rattle.exo_modes.specs.Aliases.{roots_in}
 use Rattle.exo_modes.specs.Seen.{rows_write}
 use Rattle.exo_types.specs.declared.context.Context.{Context}
-use Rattle.exo_types.specs.declared.context.Walk.{Walk}
+use Rattle.exo_types.specs.declared.context.ScopeState.{ScopeState}
 use Rattle.exo_types.specs.declared.refusal.Refusal.{Refusal}
 use Rattle.exo_types.specs.Refusals.{Refuses}
 use Rattle.exo_types.specs.ArgumentRules.{Signature}
@@ -42,7 +42,7 @@ Falls id (n ∷ scope) = (n.binder.id < id) × Falls n.binder.id scope
 
 -- There is room for so many tokens from token n on: each binder takes a token of its own, and each
 -- token has a place. The tables are no longer than their numbers reach, and the ids in scope fall.
-pub record HasRoom (c : Context) (w : Walk) (n width : ℕ) : Type 0 where
+pub record HasRoom (c : Context) (w : ScopeState) (n width : ℕ) : Type 0 where
   pub ids : w.next_id ≤ n
   pub tokens : n + width < length c.places.now
   pub few : length c.places.now ≤ 0x100001
@@ -53,30 +53,30 @@ pub record HasRoom (c : Context) (w : Walk) (n width : ℕ) : Type 0 where
 module _ (c : Context) where
   -- ---- what the rules say of a statement and of a block whose first token is n
 
-  abbrev pub own_faults : Walk → ℕ → Statement → List Fault
+  abbrev pub own_faults : ScopeState → ℕ → Statement → List Fault
   own_faults w n s =
       rules.own_faults c.fields.now c.memories.now c.procedures.now (signatures_in c) w.scope
       (roots_in w.aliases.items) n s
 
-  abbrev pub own_fault : Walk → ℕ → Statement → Option Fault
+  abbrev pub own_fault : ScopeState → ℕ → Statement → Option Fault
   own_fault w n s = least (own_faults w n s)
 
-  abbrev pub statement_fault : Walk → ℕ → Statement → Option Fault
+  abbrev pub statement_fault : ScopeState → ℕ → Statement → Option Fault
   statement_fault w n s =
       rules.statement_fault c.fields.now c.memories.now c.procedures.now (signatures_in c) w.next_id
       w.scope (roots_in w.aliases.items) n s
 
-  abbrev pub statement_of : Walk → Statement → tree.Statement
+  abbrev pub statement_of : ScopeState → Statement → tree.Statement
   statement_of w s =
       rules.statement_of c.fields.now c.memories.now c.procedures.now (signatures_in c) w.next_id
       w.scope s
 
-  abbrev pub block_fault : Walk → ℕ → Block → Option Fault
+  abbrev pub block_fault : ScopeState → ℕ → Block → Option Fault
   block_fault w n b =
       rules.block_fault c.fields.now c.memories.now c.procedures.now (signatures_in c) w.next_id
       w.scope (roots_in w.aliases.items) n b
 
-  abbrev pub block_of : Walk → Block → tree.Block
+  abbrev pub block_of : ScopeState → Block → tree.Block
   block_of w b =
       rules.block_of c.fields.now c.memories.now c.procedures.now (signatures_in c) w.next_id
       w.scope b
@@ -85,7 +85,7 @@ module _ (c : Context) where
 
   -- A statement breaks no rule, and this is its tree. Behind it the names that it binds are in
   -- scope, and the lines of the statements inside it are told.
-  pub record IsStatement (before after : Walk) (made : tree.Statement) (n : ℕ)
+  pub record IsStatement (before after : ScopeState) (made : tree.Statement) (n : ℕ)
       (s : Statement) : Type 0 where
     pub keeps : statement_fault before n s ≡ None
     pub means : made ≡ statement_of before s
@@ -96,7 +96,7 @@ module _ (c : Context) where
     pub lines : after.lines ≡ before.lines ++ map (line_at c.places.now) (inner_starts n s)
 
   -- a block breaks no rule, and this is its tree; its names end with it, and its lines are told
-  pub record IsBlock (before after : Walk) (made : List tree.Statement) (n : ℕ)
+  pub record IsBlock (before after : ScopeState) (made : List tree.Statement) (n : ℕ)
       (b : Block) : Type 0 where
     pub keeps : block_fault before n b ≡ None
     pub means : tree.block made ≡ block_of before b
@@ -106,7 +106,7 @@ module _ (c : Context) where
     pub lines : after.lines ≡ before.lines ++ map (line_at c.places.now) (block_starts n b)
 
   -- it is put last in a block, and the token behind it has that number
-  pub record IsPut (before after : Walk) (old new : List tree.Statement) (n end : ℕ)
+  pub record IsPut (before after : ScopeState) (old new : List tree.Statement) (n end : ℕ)
       (s : Statement) : Type 0 where
     pub made : tree.Statement
     pub one : IsStatement before after made n s
@@ -115,14 +115,15 @@ module _ (c : Context) where
 
   -- the statement is put last, or the first rule that it breaks is told
   abbrev pub Puts :
-      Walk → Walk → List tree.Statement → List tree.Statement → ℕ → Statement → Result ℕ Refusal
-      → Type 0
+      ScopeState → ScopeState → List tree.Statement → List tree.Statement → ℕ → Statement
+      → Result ℕ Refusal → Type 0
   Puts before after old new n s result =
       MatchResult result (λ end. IsPut before after old new n end s)
       (λ e. Refuses e (statement_fault before n s))
 
   -- the block is made, or the first rule that it breaks is told
-  abbrev pub MakesBlock : Walk → Walk → List tree.Statement → ℕ → Block → Result ℕ Refusal → Type 0
+  abbrev pub MakesBlock :
+      ScopeState → ScopeState → List tree.Statement → ℕ → Block → Result ℕ Refusal → Type 0
   MakesBlock before after made n b result =
       MatchResult result (λ _. IsBlock before after made n b)
       (λ e. Refuses e (block_fault before n b))

@@ -10,7 +10,7 @@ ghost use Rattle.exo_types.specs.ArgumentRules as rules;
 ghost use Rattle.exo_types.specs.Seen.{signature};
 
 use crate::argument::{argument_of, root_of, test_argument};
-use exo_modes::{Alias, Row, same_buffer};
+use exo_modes::{Alias, ModesRow, same_buffer};
 use exo_reader::source::SourceArg;
 use exo_tree::{Args, Param, ParamKind, Params};
 use rules_names::error::TypeKind;
@@ -23,7 +23,7 @@ use std::alloc::{AllocError, Global};
 pub struct Callee<'c> {
     pub params: &'c Params,
     /// What it writes or reduces.
-    pub writes: &'c Row,
+    pub writes: &'c ModesRow,
 }
 
 /// An argument that was passed: the buffer that it is a part of, and whether its parameter is written

@@ -12,7 +12,7 @@ ghost use Rattle.exo_types.specs.UnitLines.{line_at};
 ghost use Rattle.exo_types.specs.Walks.{signatures_in};
 
 use crate::call::Callee;
-use exo_modes::{Above, Alias, Sort, root, set_root};
+use exo_modes::{Alias, CallableModes, Sort, root, set_root};
 use exo_tree::{Binder, Id, Name, StatementLines};
 use rules_names::scope::{Meant, Scope};
 use rules_names::table::{FieldTable, NameTable};
@@ -29,12 +29,12 @@ pub struct Context<'c> {
     pub fields: &'c FieldTable<'c>,
     pub memories: &'c NameTable<'c>,
     pub procedures: &'c NameTable<'c>,
-    pub above: Above<'c>,
+    pub above: CallableModes<'c>,
 }
 
 /// What a walk through a procedure keeps.
 #[derive(Drop)]
-pub struct Walk<'c> {
+pub struct ScopeState<'c> {
     pub scope: Scope<'c>,
     /// The buffers of views.
     pub aliases: Vec<Alias>,
@@ -75,7 +75,7 @@ impl<'c> Context<'c> {
     }
 }
 
-impl<'c> Walk<'c> {
+impl<'c> ScopeState<'c> {
     /// Puts a name into scope, with the next id.
     pub fn bind(&mut self, alloc: Global, name: &'c str, sort: Sort) -> Result<Binder, AllocError>
         requires new { named_in self.old.scope name.now ≡ None }

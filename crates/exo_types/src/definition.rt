@@ -15,7 +15,7 @@ ghost use Rattle.exo_types.specs.Walks.{HasRoom};
 ghost use Rattle.exo_types.specs.Definitions as definitions;
 ghost use Rattle.exo_types.specs.Definitions.{HasSpace, IsPut, AreParams, IsAssert, AreAsserts, IsDefined};
 
-use crate::context::{Context, Walk};
+use crate::context::{Context, ScopeState};
 use crate::part::{binder_charge, comma_width, end_of_memory, memory_charge, memory_of, test_dims};
 use crate::refusal::{Refusal, keep};
 use crate::statement::add_statements;
@@ -148,7 +148,12 @@ fn form_of(
 }
 
 /// What a parameter breaks whose first token is `n`, and the number of the token behind it.
-fn test_param(context: &Context, walk: &Walk, n: usize, param: &SourceParam) -> (Charge, usize)
+fn test_param(
+    context: &Context,
+    walk: &ScopeState,
+    n: usize,
+    param: &SourceParam,
+) -> (Charge, usize)
     requires { HasRoom context.now walk.now n (parameter_width (plain_parameter param.now)) }
     ensures charge { result.0 ≡ charged (definitions.param_faults context.now walk.now n (plain_parameter param.now)) }
     ensures end { result.1 ≡ n + parameter_width (plain_parameter param.now) }
@@ -165,7 +170,7 @@ fn test_param(context: &Context, walk: &Walk, n: usize, param: &SourceParam) -> 
 /// Puts the parameter last whose first token is `n`. Gives the number of the token behind it.
 fn add_param<'c>(
     context: &Context<'c>,
-    walk: &mut Walk<'c>,
+    walk: &mut ScopeState<'c>,
     n: usize,
     param: &'c SourceParam,
     made: &mut Params,
@@ -199,7 +204,7 @@ fn add_param<'c>(
 /// closes them, if no comma stands before it.
 fn add_params<'c>(
     context: &Context<'c>,
-    walk: &mut Walk<'c>,
+    walk: &mut ScopeState<'c>,
     n: usize,
     params: &'c [SourceParam],
     made: &mut Params,
@@ -278,13 +283,13 @@ pub struct Defined {
 }
 
 /// A walk in which no name is given yet.
-fn first_walk<'c>(alloc: Global, first_id: u32) -> Walk<'c>
+fn first_walk<'c>(alloc: Global, first_id: u32) -> ScopeState<'c>
     ensures scope { result.scope ≡ [] }
     ensures aliases { result.aliases.items ≡ [] }
     ensures ids { result.next_id ≡ first_id }
     ensures lines { result.lines ≡ [] }
 {
-    Walk {
+    ScopeState {
         scope: Scope::new(alloc),
         aliases: Vec::new(alloc),
         next_id: first_id,
@@ -317,7 +322,7 @@ fn empty_procedure(
 /// Makes the parts of a procedure whose `def` is token `n`. Gives the number of the token behind it. No name is given yet.
 fn fill<'c>(
     context: &Context<'c>,
-    walk: &mut Walk<'c>,
+    walk: &mut ScopeState<'c>,
     n: usize,
     definition: &'c SourceDef,
     made: &mut Proc,

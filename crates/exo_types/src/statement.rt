@@ -21,7 +21,7 @@ ghost use Rattle.exo_types.specs.Walks.{HasRoom, stored, stored_tree, Puts, Make
 
 use crate::argument::{kind_of, spans, test_kind};
 use crate::call::{arguments_of, test_call};
-use crate::context::{Context, Walk};
+use crate::context::{Context, ScopeState};
 use crate::part::{
     binder_charge, comma_width, end_of_memory, memory_charge, memory_of, test_dims, test_store,
 };
@@ -56,7 +56,7 @@ fn stored(reduces: bool, of: Id, indices: Indices, value: DataExpr) -> Stmt
 /// Puts an assignment or a reduction last whose first token is `n`. Gives the number of the token behind it.
 fn add_store(
     context: &Context,
-    walk: &Walk,
+    walk: &ScopeState,
     n: usize,
     reduces: bool,
     x: &Text,
@@ -82,7 +82,7 @@ fn add_store(
 /// Puts a write of a configuration field last whose first token is `n`. Gives the number of the token behind it.
 fn add_config(
     context: &Context,
-    walk: &Walk,
+    walk: &ScopeState,
     n: usize,
     config: &Text,
     field: &Text,
@@ -109,7 +109,7 @@ fn add_config(
 /// Puts a call last whose name is token `n`. Gives the number of the token behind it.
 fn add_call(
     context: &Context,
-    walk: &Walk,
+    walk: &ScopeState,
     n: usize,
     name: &Text,
     arguments: &SourceArgs,
@@ -145,7 +145,7 @@ fn add_call(
 /// The charge of an allocation whose name is token `n`, and the number of the token behind it.
 fn test_alloc(
     context: &Context,
-    walk: &Walk,
+    walk: &ScopeState,
     n: usize,
     x: &Text,
     kind: &SourceKind,
@@ -172,7 +172,7 @@ fn test_alloc(
 /// Puts an allocation last whose name is token `n`. Gives the number of the token behind it.
 fn add_alloc<'c>(
     context: &Context<'c>,
-    walk: &mut Walk<'c>,
+    walk: &mut ScopeState<'c>,
     n: usize,
     x: &'c Text,
     kind: &SourceKind,
@@ -212,7 +212,7 @@ fn view_sort(sort: Option<Sort>, rank: usize) -> Sort
 /// The charge of a view whose name is token `n`, and the number of the token behind it.
 fn test_view(
     context: &Context,
-    walk: &Walk,
+    walk: &ScopeState,
     n: usize,
     w: &Text,
     x: &Text,
@@ -235,7 +235,7 @@ fn test_view(
 /// Puts a view last whose name is token `n`. Gives the number of the token behind it.
 fn add_view<'c>(
     context: &Context<'c>,
-    walk: &mut Walk<'c>,
+    walk: &mut ScopeState<'c>,
     n: usize,
     w: &'c Text,
     x: &Text,
@@ -263,7 +263,7 @@ fn add_view<'c>(
 #[cycle(statements)]
 fn add_statement<'c>(
     context: &Context<'c>,
-    walk: &mut Walk<'c>,
+    walk: &mut ScopeState<'c>,
     n: usize,
     s: &'c SourceStmt,
     made: &mut Block,
@@ -295,7 +295,7 @@ fn add_statement<'c>(
 #[cycle(statements)]
 fn add_branch<'c>(
     context: &Context<'c>,
-    walk: &mut Walk<'c>,
+    walk: &mut ScopeState<'c>,
     n: usize,
     c: &SourceExpr,
     a: &'c [SourceStmt],
@@ -328,7 +328,7 @@ fn add_branch<'c>(
 #[cycle(statements)]
 fn add_else<'c>(
     context: &Context<'c>,
-    walk: &mut Walk<'c>,
+    walk: &mut ScopeState<'c>,
     n: usize,
     b: &'c [SourceStmt],
     made: &mut Block,
@@ -348,7 +348,7 @@ fn add_else<'c>(
 /// The charge of the header of a loop whose first token is `n`, and the number of the token behind its bounds.
 fn test_loop(
     context: &Context,
-    walk: &Walk,
+    walk: &ScopeState,
     n: usize,
     i: &Text,
     low: &SourceExpr,
@@ -399,7 +399,7 @@ fn put_loop(
 #[cycle(statements)]
 fn add_loop<'c>(
     context: &Context<'c>,
-    walk: &mut Walk<'c>,
+    walk: &mut ScopeState<'c>,
     n: usize,
     i: &'c Text,
     low: &SourceExpr,
@@ -429,7 +429,7 @@ fn add_loop<'c>(
 #[cycle(statements)]
 pub fn add_statements<'c>(
     context: &Context<'c>,
-    walk: &mut Walk<'c>,
+    walk: &mut ScopeState<'c>,
     n: usize,
     statements: &'c [SourceStmt],
     made: &mut Block,

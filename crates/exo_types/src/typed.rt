@@ -29,7 +29,7 @@ use crate::definition::{Defined, definition_of};
 use crate::refusal::{Refusal, keep};
 use crate::template::is_template;
 use crate::types::{kind_charge, kind_of};
-use exo_modes::{Above, Row, row_of};
+use exo_modes::{CallableModes, ModesRow, row_of};
 use exo_reader::source::{SourceAttribute, SourceDef, SourceField, SourceItem};
 use exo_tree::{Field, Fields, Lines, Memories, Name, Proc, ProcLines, Procs, Text, Unit};
 use rules_names::error::TypeKind;
@@ -41,7 +41,7 @@ use text_lexer::text as lexer;
 
 /// What stands above an item: the unit so far, and the tables of its names.
 #[derive(Drop)]
-pub struct Typed<'c> {
+pub struct UnitBuilder<'c> {
     pub unit: Unit,
     pub procedures: NameTable<'c>,
     pub memories: NameTable<'c>,
@@ -49,7 +49,7 @@ pub struct Typed<'c> {
     pub configurations: NameTable<'c>,
     pub fields: FieldTable<'c>,
     /// What each procedure writes or reduces.
-    pub rows: Vec<Row>,
+    pub rows: Vec<ModesRow>,
     /// The id of the next binder.
     pub next_id: u32,
 }
@@ -150,9 +150,9 @@ fn first_names<'c>(alloc: Global) -> Result<NameTable<'c>, AllocError>
     Ok(names)
 }
 
-impl<'c> Typed<'c> {
+impl<'c> UnitBuilder<'c> {
     /// Nothing but the memory that is always there.
-    pub fn new(alloc: Global) -> Result<Box<Typed<'c>>, AllocError>
+    pub fn new(alloc: Global) -> Result<Box<UnitBuilder<'c>>, AllocError>
         ensures agrees { IfOk result (λ t. Agrees t.value) }
         ensures few { IfOk result (λ t. IsFew t.value 0) }
         ensures stands { IfOk result (λ t. Stands t.value nothing_above) }
@@ -160,7 +160,7 @@ impl<'c> Typed<'c> {
     {
         let names = first_names(alloc)?;
         let memories = first_memories(alloc)?;
-        let first = Typed {
+        let first = UnitBuilder {
             unit: Unit {
                 procs: Procs::new(alloc),
                 fields: Fields::new(alloc),
@@ -215,7 +215,7 @@ impl<'c> Typed<'c> {
         n: usize,
         template: Option<Text>,
         definition: &SourceDef,
-    ) -> Result<(Defined, Row), Refusal>
+    ) -> Result<(Defined, ModesRow), Refusal>
         requires agrees { Agrees self.now }
         requires few { IsFew self.now n }
         requires places { HasPlaces places.now (definition_end n (plain_definition definition.now)) }
@@ -235,7 +235,7 @@ impl<'c> Typed<'c> {
             fields: &self.fields,
             memories: &self.memories,
             procedures: &self.procedures,
-            above: Above {
+            above: CallableModes {
                 procs: &self.unit.procs,
                 rows: &self.rows,
             },
@@ -250,7 +250,7 @@ impl<'c> Typed<'c> {
         &mut self,
         name: &'c str,
         made: Proc,
-        row: Row,
+        row: ModesRow,
         lines: ProcLines,
     ) -> Result<(), AllocError>
         requires { name_number self.old.procedures name.now ≡ None }

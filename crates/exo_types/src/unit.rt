@@ -4,10 +4,10 @@ ghost use Rattle.exo_reader.specs.Views.{plain_item};
 ghost use Rattle.exo_types.specs.Refusals.{Refuses};
 ghost use Rattle.exo_types.specs.UnitRules.{nothing_above, unit_fault, items_width};
 ghost use Rattle.exo_types.specs.Standing.{Agrees, HasPlaces, IsFew, IsUnitOf, Stands};
-ghost use Rattle.exo_types.specs.Typed.{IsPlaced, Types, IsErrorOf, IsInPlace};
+ghost use Rattle.exo_types.specs.UnitBuilder.{IsPlaced, Types, IsErrorOf, IsInPlace};
 
 use crate::refusal::{Refusal, no_memory};
-use crate::typed::Typed;
+use crate::typed::UnitBuilder;
 use exo_reader::source::SourceItem;
 use exo_reader::unit::Source;
 use exo_tree::Unit;
@@ -19,7 +19,7 @@ use text_lexer::place::Place;
 fn add_items<'c>(
     alloc: Global,
     places: &[Place],
-    typed: &mut Typed<'c>,
+    typed: &mut UnitBuilder<'c>,
     items: &'c [SourceItem],
 ) -> Result<(), Refusal>
     requires agrees { Agrees typed.old }
@@ -43,7 +43,7 @@ fn unit_of(alloc: Global, places: &[Place], items: &[SourceItem]) -> Result<Unit
     requires { HasPlaces places.now (items_width (map plain_item items.now)) }
     ensures { MatchResult result (IsUnitOf places.now (map plain_item items.now)) (λ e. Refuses e (unit_fault (map plain_item items.now))) }
 {
-    let mut typed = Typed::new(alloc)?;
+    let mut typed = UnitBuilder::new(alloc)?;
     add_items(alloc, places, &mut *typed, items)?;
     Ok(Box::into_inner(typed).into_unit())
 }

@@ -4,11 +4,11 @@ use Rattle.std.specs.List.{list_all}
 use Rattle.std.specs.Char.{is_ascii_digit}
 use Rattle.text_lexer.specs.Bytes.{is_printable, is_quote, begins_name, goes_on_name}
 use Rattle.text_lexer.specs.Quoted.{quoted}
-use Rattle.text_lexer.specs.Piece.{word_of, decorator_of, sign_of, sign_with_equals, decimal, string_ending, string_piece, word_token, name_token, name_piece, decorated, decorator_piece, digits_piece, literal_piece, lone_piece, longer_piece, sign_piece, piece_of}
+use Rattle.text_lexer.specs.Lexeme.{word_of, decorator_of, sign_of, sign_with_equals, decimal, string_ending, string_lexeme, word_token, name_token, name_lexeme, decorated, decorator_lexeme, digits_lexeme, literal_lexeme, lone_lexeme, longer_lexeme, sign_lexeme, lexeme_of}
 use Rattle.text_lexer.specs.Layout.{at, put, token_of, lines, tokens_in, is_fault, up_to_fault, line_tokens, is_import, innermost, still_open, blocks_at, indentation, is_foreign, brackets_after, line_end, with_end, Laid, begun, laid, text_end, layout, end_place, lexed}
 use Rattle.text_lexer.specs.declared.place.Place.{Place}
 use Rattle.text_lexer.specs.declared.place.Placed.{Placed}
-use Rattle.text_lexer.specs.declared.piece.Piece.{Piece}
+use Rattle.text_lexer.specs.declared.lexeme.Lexeme.{Lexeme}
 use Rattle.text_lexer.specs.declared.quoted.Ending.{Ending}
 use Rattle.text_lexer.specs.declared.quoted.Ending.TheVariants.{Closed, Unclosed, Foreign}
 use Rattle.text_lexer.specs.declared.quoted.Quoted.{Quoted}
@@ -25,23 +25,23 @@ use Rattle.exo_types_laws.proofs.Unbroken.{both, pair, all_more}
 
 -- ---- pieces
 
-abbrev SmallPiece : Piece → Type 0
+abbrev SmallPiece : Lexeme → Type 0
 SmallPiece p = is_small_token p.token ≡ true
 
-one_of : (b : Bool) (p q : Piece) → SmallPiece p → SmallPiece q → SmallPiece (if b then p else q)
+one_of : (b : Bool) (p q : Lexeme) → SmallPiece p → SmallPiece q → SmallPiece (if b then p else q)
 one_of true p q h k = h
 one_of false p q h k = k
 
-digits_small : (digits : List ℕ) → SmallPiece (digits_piece digits)
+digits_small : (digits : List ℕ) → SmallPiece (digits_lexeme digits)
 digits_small digits = by (nat_lt (decimal 0 digits) 0x80000000) refl
   where
     by : (b : Bool) → nat_lt (decimal 0 digits) 0x80000000 ≡ b → is_small_token (token.Int (if b then Value (decimal 0 digits) else TooLarge)) ≡ true
     by true h = h
     by false h = refl
 
-literal_small : (digits : List ℕ) → SmallPiece (literal_piece digits)
+literal_small : (digits : List ℕ) → SmallPiece (literal_lexeme digits)
 literal_small [] = digits_small []
-literal_small (d ∷ digits) = one_of (nat_eq d 0x30) (record { token = token.Int (Value 0); width = 1 }) (digits_piece (d ∷ digits)) refl (digits_small (d ∷ digits))
+literal_small (d ∷ digits) = one_of (nat_eq d 0x30) (record { token = token.Int (Value 0); width = 1 }) (digits_lexeme (d ∷ digits)) refl (digits_small (d ∷ digits))
 
 name_small : (text : List ℕ) → is_small_token (name_token text) ≡ true
 name_small text = by (bytes_eq text (codes "_"))
@@ -63,34 +63,34 @@ decorator_small : (o : Option Decorator) (width : ℕ) → SmallPiece (decorated
 decorator_small (Some d) width = refl
 decorator_small None width = refl
 
-lone_small : (o : Option Sign) → SmallPiece (lone_piece o)
+lone_small : (o : Option Sign) → SmallPiece (lone_lexeme o)
 lone_small (Some s) = refl
 lone_small None = refl
 
-longer_small : (o : Option Sign) (b : ℕ) → SmallPiece (longer_piece o b)
+longer_small : (o : Option Sign) (b : ℕ) → SmallPiece (longer_lexeme o b)
 longer_small (Some s) b = refl
 longer_small None b = lone_small (sign_of b)
 
-sign_small : (b : ℕ) (rest : List ℕ) → SmallPiece (sign_piece b rest)
+sign_small : (b : ℕ) (rest : List ℕ) → SmallPiece (sign_lexeme b rest)
 sign_small b [] = lone_small (sign_of b)
-sign_small b (c ∷ rest) = one_of (nat_eq c 0x3D) (longer_piece (sign_with_equals b) b) (lone_piece (sign_of b)) (longer_small (sign_with_equals b) b) (lone_small (sign_of b))
+sign_small b (c ∷ rest) = one_of (nat_eq c 0x3D) (longer_lexeme (sign_with_equals b) b) (lone_lexeme (sign_of b)) (longer_small (sign_with_equals b) b) (lone_small (sign_of b))
 
-foreign : Piece
+foreign : Lexeme
 foreign = record { token = token.Bad Byte; width = 1 }
 
-piece_small : (bytes : List ℕ) → SmallPiece (piece_of bytes)
+piece_small : (bytes : List ℕ) → SmallPiece (lexeme_of bytes)
 unfolding foreign
 piece_small [] = refl
 piece_small (b ∷ rest) =
-    let last : SmallPiece (if is_printable b then sign_piece b rest else foreign) = one_of (is_printable b) (sign_piece b rest) foreign (sign_small b rest) refl in
-    let fourth : Piece = if is_printable b then sign_piece b rest else foreign in
-    let third : Piece = if nat_eq b 0x40 then decorator_piece (take_while goes_on_name rest) else fourth in
-    let second : Piece = if is_quote b then string_piece (quoted b rest) else third in
-    let first : Piece = if is_ascii_digit b then literal_piece (take_while is_ascii_digit (b ∷ rest)) else second in
-    one_of (begins_name b) (name_piece (take_while goes_on_name (b ∷ rest))) first (name_small (take_while goes_on_name (b ∷ rest)))
-    (one_of (is_ascii_digit b) (literal_piece (take_while is_ascii_digit (b ∷ rest))) second (literal_small (take_while is_ascii_digit (b ∷ rest)))
-    (one_of (is_quote b) (string_piece (quoted b rest)) third (string_small (quoted b rest).ending (quoted b rest))
-    (one_of (nat_eq b 0x40) (decorator_piece (take_while goes_on_name rest)) fourth (decorator_small (decorator_of (take_while goes_on_name rest)) (length (take_while goes_on_name rest))) last)))
+    let last : SmallPiece (if is_printable b then sign_lexeme b rest else foreign) = one_of (is_printable b) (sign_lexeme b rest) foreign (sign_small b rest) refl in
+    let fourth : Lexeme = if is_printable b then sign_lexeme b rest else foreign in
+    let third : Lexeme = if nat_eq b 0x40 then decorator_lexeme (take_while goes_on_name rest) else fourth in
+    let second : Lexeme = if is_quote b then string_lexeme (quoted b rest) else third in
+    let first : Lexeme = if is_ascii_digit b then literal_lexeme (take_while is_ascii_digit (b ∷ rest)) else second in
+    one_of (begins_name b) (name_lexeme (take_while goes_on_name (b ∷ rest))) first (name_small (take_while goes_on_name (b ∷ rest)))
+    (one_of (is_ascii_digit b) (literal_lexeme (take_while is_ascii_digit (b ∷ rest))) second (literal_small (take_while is_ascii_digit (b ∷ rest)))
+    (one_of (is_quote b) (string_lexeme (quoted b rest)) third (string_small (quoted b rest).ending (quoted b rest))
+    (one_of (nat_eq b 0x40) (decorator_lexeme (take_while goes_on_name rest)) fourth (decorator_small (decorator_of (take_while goes_on_name rest)) (length (take_while goes_on_name rest))) last)))
 
 -- ---- lines
 
@@ -108,9 +108,9 @@ tokens_small : (line column covered : ℕ) (bytes : List ℕ) → Small (tokens_
 tokens_small line column covered [] = refl
 tokens_small line column (suc covered) (b ∷ rest) = tokens_small line (column + 1) covered rest
 tokens_small line column zero (b ∷ rest) =
-    let more : List Placed = put (at line column) (piece_of (b ∷ rest)).token ∷ tokens_in line (column + 1) ((piece_of (b ∷ rest)).width - 1) rest in
+    let more : List Placed = put (at line column) (lexeme_of (b ∷ rest)).token ∷ tokens_in line (column + 1) ((lexeme_of (b ∷ rest)).width - 1) rest in
     if_small (nat_eq b 0x20) (tokens_in line (column + 1) zero rest) (if nat_eq b 0x23 then [] else more) (tokens_small line (column + 1) zero rest)
-    (if_small (nat_eq b 0x23) [] more refl (pair (piece_small (b ∷ rest)) (tokens_small line (column + 1) ((piece_of (b ∷ rest)).width - 1) rest)))
+    (if_small (nat_eq b 0x23) [] more refl (pair (piece_small (b ∷ rest)) (tokens_small line (column + 1) ((lexeme_of (b ∷ rest)).width - 1) rest)))
 
 cut_small : (ps : List Placed) → Small ps → Small (up_to_fault ps)
 cut_small [] h = refl

@@ -6,7 +6,7 @@ use Rattle.text_lexer.specs.declared.token.Token.{Token}
 use Rattle.text_lexer.specs.declared.token.Token.TheVariants as t
 use Rattle.text_lexer.specs.declared.token.Sign.TheVariants as s
 use Rattle.text_expressions.specs.Expression.{Tree, Trees, number, truth, variable, access, field, stride, relu, select, negative, parens, binary, end, next, sign, spelling, spelling_list, spelling_more}
-use Rattle.text_expressions.specs.declared.source.Operator.{Operator}
+use Rattle.text_expressions.specs.declared.source.Infix.{Infix}
 use Rattle.text_expressions.specs.Expression.{IsSmall, AreSmall, control}
 use Rattle.text_phrases.specs.Limits.{in_size}
 use Rattle.text_phrases.specs.Sequence.{AllFit}
@@ -42,7 +42,7 @@ left xs ys h = (all_of_both is_small_token xs ys h).0
 right : (xs ys : List Token) → are_small_tokens (xs ++ ys) ≡ true → are_small_tokens ys ≡ true
 right xs ys h = (all_of_both is_small_token xs ys h).1
 
-operator_small : (operator : Operator) (ts : List Token) → are_small_tokens (sign operator ∷ ts) ≡ true → are_small_tokens ts ≡ true
+operator_small : (operator : Infix) (ts : List Token) → are_small_tokens (sign operator ∷ ts) ≡ true → are_small_tokens ts ≡ true
 operator_small operator ts h = (both (is_small_token (sign operator)) (are_small_tokens ts) h).1
 
 mutual

@@ -4,12 +4,13 @@ use Rattle.std.proofs.Common.{Err}
 use Rattle.std.proofs.Common.{refl, sym, ap, ◌∙◌}
 use Rattle.exo_tree.specs.Tree.{Argument, Param, Block, Procedure}
 use Rattle.exo_tree.specs.Places.{Path}
+use Rattle.exo_tree.specs.Passed.{passed_for}
 use Rattle.affine_forms.specs.Forms.{Reading}
 use Rattle.match_laws.specs.Names.{Names}
 use Rattle.match_laws.specs.Matched.{Arguments, NoMatch, Undetermined, with_first}
 use Rattle.match_laws.specs.Matched.{first_undetermined, first_difference, params, own_pairs, walk}
 use Rattle.match_laws.specs.Matched.{by_walk, argument_for, arguments_for, with_strides, moving, to}
-use Rattle.match_laws.specs.Matched.{given_to, OneForEach}
+use Rattle.match_laws.specs.Matched.{OneForEach}
 
 abbrev pub failed : Path → Result (List Argument) Path
 failed p = Err p
@@ -58,7 +59,7 @@ module _ (at : Reading) (theirs : Names) (block : Block) (q : Procedure) where
       → with_strides at theirs block q o ≡ Arguments args → length args ≡ length q.params
   by_strides (Err p) args h e = absurd (no_match p args e)
   by_strides (Ok more) args h e = go (first_difference at (moving (params at theirs block q)
-      (to at theirs block q) (given_to at theirs block q q.params more))
+      (to at theirs block q) (passed_for q.params more))
       (walk at theirs block q)) e
     where
       go : (o : Option Path)

@@ -8,6 +8,7 @@ use Rattle.exo_tree.specs.Tree.{Or, Coord, At, Span, Argument, ControlArg, Condi
 use Rattle.exo_tree.specs.Tree.{ParamKind, ControlParam, TensorParam, WindowParam, Param, Block}
 use Rattle.exo_tree.specs.Tree.{Procedure}
 use Rattle.exo_tree.specs.Places.{Path}
+use Rattle.exo_tree.specs.Passed.{passed_for}
 use Rattle.exo_tree.specs.Renaming.{re_control, re_controls, re_condition, re_coords, re_block}
 use Rattle.exo_meaning.specs.Renaming.{Renaming}
 use Rattle.meaning_laws.specs.Scoped.{has_binder}
@@ -28,7 +29,7 @@ use Rattle.match_laws.specs.Matched.{truth_in, stride_in, variable_for, stride_f
 use Rattle.match_laws.specs.Matched.{number_differs, truth_differs, differs, first_difference}
 use Rattle.match_laws.specs.Matched.{first_path, or_differs, with_first, is_undetermined}
 use Rattle.match_laws.specs.Matched.{first_undetermined, all_pairs, own_pairs, to, walk}
-use Rattle.match_laws.specs.Matched.{by_walk, buffer_argument, argument_for, arguments_for, given_to}
+use Rattle.match_laws.specs.Matched.{by_walk, buffer_argument, argument_for, arguments_for}
 use Rattle.match_laws.specs.Matched.{with_strides, matched}
 use Rattle.match_laws.specs.RenamedCallee.{re_kind, re_params, re_procedure}
 use Rattle.match_laws.specs.RenamedMatch.{re_matched, MatchIsRenamed}
@@ -628,8 +629,8 @@ module _ (r : Renaming) where
     all_for_re (p ∷ ps) = ap₂ with_first (for_re p.binder.id p.kind) (all_for_re ps)
 
     given_re : (ps : List Param) (args : List Argument) (x : ℕ)
-        → given_to at theirs block other (re_params r ps) args (r.to x)
-        ≡ given_to at theirs block q ps args x
+        → passed_for (re_params r ps) args (r.to x)
+        ≡ passed_for ps args x
     given_re [] args x = refl
     given_re (p ∷ ps) [] x = refl
     given_re (p ∷ ps) (a ∷ args) x =
@@ -643,8 +644,8 @@ module _ (r : Renaming) where
         → with_strides at theirs block other o ≡ with_strides at theirs block q o
     with_strides_re (Err p) = refl
     with_strides_re (Ok args) = ap (by_path args)
-        (differences_re (given_to at theirs block other (re_params r q.params) args)
-        (given_to at theirs block q q.params args) (given_re q.params args))
+        (differences_re (passed_for (re_params r q.params) args)
+        (passed_for q.params args) (given_re q.params args))
 
     abbrev by_difference : Matched → Option Path → Matched
     by_difference m o = elim o [ Some p ↦ NoMatch p | None ↦ m ]
@@ -670,7 +671,7 @@ module _ (r : Renaming) where
         → with_strides at theirs block q o ≡ re_matched r (with_strides at theirs block q o)
     strides_stay (Err p) = refl
     strides_stay (Ok args) = go (first_difference at (moving (is_param q) (to at theirs block q)
-        (given_to at theirs block q q.params args)) (walk at theirs block q))
+        (passed_for q.params args)) (walk at theirs block q))
       where
         go : (o : Option Path) → by_path args o ≡ re_matched r (by_path args o)
         go None = refl

@@ -1,4 +1,3 @@
-pub mod Pieces
 pub mod InlineRule
 pub mod InlineWindowRule
 pub mod InlineConditions

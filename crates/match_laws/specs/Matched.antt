@@ -7,6 +7,7 @@ use Rattle.exo_tree.specs.Tree.{Condition, Flag, Argument, ControlArg, Condition
 use Rattle.exo_tree.specs.Tree.{ParamKind, ControlParam, TensorParam, WindowParam, Param, Block}
 use Rattle.exo_tree.specs.Tree.{Procedure}
 use Rattle.exo_tree.specs.Places.{Path}
+use Rattle.exo_tree.specs.Passed.{passed_for}
 use Rattle.exo_meaning.specs.Unseen.{in_control as mentions, in_condition as condition_mentions}
 use Rattle.affine_forms.specs.Forms.{Reading}
 use Rattle.meaning_laws.specs.Scoped.{has_binder}
@@ -247,16 +248,11 @@ module _ (at : Reading) (theirs : Names) (block : Block) (q : Procedure) where
   arguments_for [] = Ok []
   arguments_for (p ∷ ps) = with_first (argument_for p.binder.id p.kind) (arguments_for ps)
 
-  abbrev pub given_to : List Param → List Argument → ℕ → Option Argument
-  given_to [] args x = None
-  given_to (p ∷ ps) [] x = None
-  given_to (p ∷ ps) (a ∷ args) x = if p.binder.id == x then Some a else given_to ps args x
-
   -- strides of parameters are compared once the arguments are found
   abbrev pub with_strides : Result (List Argument) Path → Matched
   with_strides (Err p) = NoMatch p
   with_strides (Ok args) =
-      elim (first_difference at (moving params to (given_to q.params args)) walk) [
+      elim (first_difference at (moving params to (passed_for q.params args)) walk) [
         | None ↦ Arguments args
         | Some p ↦ NoMatch p
       ]

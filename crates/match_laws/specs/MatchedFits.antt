@@ -1,13 +1,14 @@
 -- What stands where a block is matched with a callee's body.
 use Rattle.std.specs.Prelude.{◌≡◌, ℕ, true, List, [], ◌∷◌, Option, Some, None, IfSome, Ok, ⊤}
 use Rattle.exo_tree.specs.Tree.{Argument, Param, Block, Procedure}
+use Rattle.exo_tree.specs.Passed.{passed_for}
 use Rattle.exo_meaning.specs.Orders.{Each}
 use Rattle.affine_forms.specs.Forms.{Reading}
 use Rattle.match_laws.specs.Names.{Names}
 use Rattle.match_laws.specs.Pairs.{Pair, Numbers, Truths, Binders, Own, Access, Unlike}
 use Rattle.match_laws.specs.Moved.{Moving, moved, moved_condition, agree, conditions_agree}
 use Rattle.match_laws.specs.Matched.{Arguments, matched, first_undetermined, params, all_pairs}
-use Rattle.match_laws.specs.Matched.{own_pairs, to, walk, moving, given_to, argument_for}
+use Rattle.match_laws.specs.Matched.{own_pairs, to, walk, moving, argument_for}
 
 -- expressions agree, where the callee's one is known in the block's names; names of the callee's
 -- own correspond
@@ -33,7 +34,7 @@ module _ (at : Reading) (theirs : Names) (block : Block) (q : Procedure) where
   abbrev pub given_names : List Argument → Moving
   given_names args =
       moving (params at theirs block q) (to at theirs block q)
-      (given_to at theirs block q q.params args)
+      (passed_for q.params args)
 
   pub record IsMatch (args : List Argument) : Type 0 where
     pub determined :

@@ -1,23 +1,15 @@
 -- A callee with other ids: a call of it is a call of the callee.
 use Rattle.std.specs.Prelude.{◌≡◌, List, [], ◌∷◌, Some}
-use Rattle.exo_tree.specs.Tree.{Condition, Argument, ParamKind, ControlParam, TensorParam}
-use Rattle.exo_tree.specs.Tree.{WindowParam, Param, Procedure}
+use Rattle.exo_tree.specs.Tree.{Condition, Argument, Param, Procedure}
 use Rattle.exo_meaning.specs.State.{State}
 use Rattle.exo_meaning.specs.Run.{World, call_to, callee_in}
-use Rattle.exo_meaning.specs.Renaming.{Renaming, re_binder, re_controls, re_condition, re_block}
+use Rattle.exo_meaning.specs.Renaming.{Renaming, re_condition, re_block}
+pub use Rattle.exo_meaning.specs.Renaming.{re_kind, re_param}
 
 module _ (r : Renaming) where
-  abbrev pub re_kind : ParamKind → ParamKind
-  re_kind (ControlParam kind) = ControlParam kind
-  re_kind (TensorParam cell dims memory) = TensorParam cell (re_controls r dims) memory
-  re_kind (WindowParam cell dims memory) = WindowParam cell (re_controls r dims) memory
-
-  abbrev pub re_param : Param → Param
-  re_param p = record { binder = re_binder r p.binder; kind = re_kind p.kind }
-
   abbrev pub re_params : List Param → List Param
   re_params [] = []
-  re_params (p ∷ ps) = re_param p ∷ re_params ps
+  re_params (p ∷ ps) = re_param r p ∷ re_params ps
 
   abbrev pub re_conditions : List Condition → List Condition
   re_conditions [] = []

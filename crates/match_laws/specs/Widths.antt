@@ -7,6 +7,7 @@ use Rattle.exo_tree.specs.Tree.{At}
 use Rattle.exo_tree.specs.Tree.{Span, Argument, ParamKind, ControlParam, TensorParam, WindowParam}
 use Rattle.exo_tree.specs.Tree.{Param, Block, Procedure}
 use Rattle.exo_tree.specs.Places.{Path}
+use Rattle.exo_tree.specs.Passed.{passed_for}
 use Rattle.affine_forms.specs.Forms.{Reading, keeps_rules, is_writable}
 use Rattle.meaning_laws.specs.Scoped.{has_binder}
 use Rattle.match_laws.specs.Names.{Buffer, Names}
@@ -16,7 +17,7 @@ use Rattle.match_laws.specs.Windows.{Use, uses_of, choices, Spot, Offset, Point,
 use Rattle.match_laws.specs.Windows.{are_free, fitting, argument_from, all_moved, all_of_name}
 use Rattle.match_laws.specs.Matched.{Matched, matched, differs, first_difference}
 use Rattle.match_laws.specs.Matched.{first_undetermined, params, own_pairs, to, walk, moving}
-use Rattle.match_laws.specs.Matched.{by_walk, argument_for, arguments_for, given_to}
+use Rattle.match_laws.specs.Matched.{by_walk, argument_for, arguments_for}
 
 -- what the match says, or that a number that it needs is too wide
 pub data InWidth : Type 0 where
@@ -172,7 +173,7 @@ module _ (at : Reading) (theirs : Names) (block : Block) (q : Procedure) where
   strides_are_short (Err p) = true
   strides_are_short (Ok args) =
       walk_is_short at (moving (params at theirs block q) (to at theirs block q)
-      (given_to at theirs block q q.params args)) (walk at theirs block q)
+      (passed_for q.params args)) (walk at theirs block q)
 
   -- in the order in which the match asks
   abbrev pub match_is_short : Bool

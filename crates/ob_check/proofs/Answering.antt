@@ -10,7 +10,7 @@ use Rattle.affine_prover.specs.declared.answer.Verdict.{Verdict}
 use Rattle.affine_prover.specs.declared.answer.Verdict.TheVariants.{Shown, Open, TooMany, TooWide}
 use Rattle.affine_prover.specs.Elimination.{elimination}
 use Rattle.ob_check.specs.declared.answer.Answer.TheVariants.{AllShown, First}
-use Rattle.ob_check.specs.declared.known.Known.{Known}
+use Rattle.ob_check.specs.declared.known.KnownSystem.{KnownSystem}
 use Rattle.ob_check.specs.declared.found.Found.{Found}
 use Rattle.ob_check.specs.declared.found.Found.TheVariants.{Kept, Missing}
 use Rattle.ob_check.specs.Truth.{IsTrueOf}
@@ -20,12 +20,12 @@ use Rattle.ob_check.specs.Answers.{is_refused, answer_at, answer_of}
 
 -- ---- the decided systems, where they go on
 
-first_missing : (f : Found) (fs : List Found) (ds : List Known) → map system_known ds ≡ missing_of (f ∷ fs) → ComesFirst f ds × (map system_known (drop (own_count f) ds) ≡ missing_of fs)
+first_missing : (f : Found) (fs : List Found) (ds : List KnownSystem) → map system_known ds ≡ missing_of (f ∷ fs) → ComesFirst f ds × (map system_known (drop (own_count f) ds) ≡ missing_of fs)
 first_missing (Kept k) fs ds e = (tt, e)
 first_missing (Missing s) fs [] e = cc
 first_missing (Missing s) fs (d ∷ ds) e = (cc, cc)
 
-pub next_missing : (f : Found) (fs : List Found) (ds : List Known) (next : ℕ) → map system_known (drop next ds) ≡ missing_of (f ∷ fs) → ComesFirst f (drop next ds) × (map system_known (drop (next + own_count f) ds) ≡ missing_of fs)
+pub next_missing : (f : Found) (fs : List Found) (ds : List KnownSystem) (next : ℕ) → map system_known (drop next ds) ≡ missing_of (f ∷ fs) → ComesFirst f (drop next ds) × (map system_known (drop (next + own_count f) ds) ≡ missing_of fs)
 next_missing f fs ds next e =
     let h = first_missing f fs (drop next ds) e in
     (h.0, ap (map system_known) (sym (drop-drop (own_count f) next ds)) ∙ h.1)
@@ -115,7 +115,7 @@ first_at fs i f v h e shown true_of refused =
     let n : length (take i fs) ≡ i = length-take-le i fs (omega (arith, h)) in
     sym (ap (λ k. First k v) n) ∙ answer_first (take i fs) f (drop (i + 1) fs) v shown true_of refused ∙ ap (λ gs. answer_of (eliminations gs)) (whole fs i f h e)
 
-pub rest_missing : (fs : List Found) (i : ℕ) (f : Found) (ds : List Known) (next own : ℕ) → i < length fs → f ≡ get_or fs i f → own ≡ own_count f → map system_known (drop next ds) ≡ missing_of (drop i fs) → map system_known (drop (next + own) ds) ≡ missing_of (drop (i + 1) fs)
+pub rest_missing : (fs : List Found) (i : ℕ) (f : Found) (ds : List KnownSystem) (next own : ℕ) → i < length fs → f ≡ get_or fs i f → own ≡ own_count f → map system_known (drop next ds) ≡ missing_of (drop i fs) → map system_known (drop (next + own) ds) ≡ missing_of (drop (i + 1) fs)
 rest_missing fs i f ds next own h e o m = ap (λ k. map system_known (drop (next + k) ds)) o ∙ (next_missing f (drop (i + 1) fs) ds next (m ∙ ap missing_of (item_at fs i f h e))).1
 
 pub more_shown : (fs : List Found) (i : ℕ) (f : Found) (v : Verdict) → i < length fs → f ≡ get_or fs i f → All IsShown (take i fs) → IsTrueOf (system_found f) v → is_refused v ≡ false → All IsShown (take (i + 1) fs)
@@ -129,7 +129,7 @@ more_shown fs i f v h e shown true_of kept =
     front gs f rest n e = ap (λ k. take k (gs ++ f ∷ rest)) (sym e ∙ sym (length-append gs (f ∷ []))) ∙ ap (take (length (gs ++ f ∷ []))) (sym (append_assoc gs (f ∷ []) rest)) ∙ take-append_seam (gs ++ f ∷ []) rest
 
 -- one more with its verdict
-pub one_known : (fs : List Found) (i : ℕ) (f : Found) (ks ls : List Known) (k : Known) → i < length fs → f ≡ get_or fs i f → ls ≡ ks ++ k ∷ [] → system_known k ≡ system_found f → map system_known ks ≡ map system_found (take i fs) → map system_known ls ≡ map system_found (take (i + 1) fs)
+pub one_known : (fs : List Found) (i : ℕ) (f : Found) (ks ls : List KnownSystem) (k : KnownSystem) → i < length fs → f ≡ get_or fs i f → ls ≡ ks ++ k ∷ [] → system_known k ≡ system_found f → map system_known ks ≡ map system_found (take i fs) → map system_known ls ≡ map system_found (take (i + 1) fs)
 one_known fs i f ks ls k h e is same so_far =
     ap (map system_known) is
     ∙ map-append system_known ks (k ∷ [])

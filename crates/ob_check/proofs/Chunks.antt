@@ -6,7 +6,7 @@ use Rattle.std.specs.declared.vec.Vec.{Vec}
 use Rattle.std.specs.declared.alloc.AllocError.{AllocError}
 use Rattle.std.specs.declared.result.Result.{Result}
 use Rattle.std.specs.declared.result.Result.TheVariants.{Ok, Err}
-use Rattle.ob_check.specs.declared.known.Known.{Known}
+use Rattle.ob_check.specs.declared.known.KnownSystem.{KnownSystem}
 use Rattle.ob_check.specs.Systems.{known_in}
 use Rattle.std.proofs.Math.Seq.{take-add, take-suc}
 use Rattle.std.proofs.lemmas.List.{take_all, map-append}
@@ -62,6 +62,6 @@ pub if_both : {T E : Type 0} {P Q R : T → Type 0} (r : Result T E) → IfOk r 
 if_both (Ok x) p q f = f x p q
 if_both (Err e) p q f = tt
 
-pub known_by : {Y : Type 0} (g : Known → Y) (ys : List Y) (r : Result (Vec Known Global) AllocError) → IsOk r → IfOk r (λ v. map g v.items ≡ ys) → map g (known_in r) ≡ ys
+pub known_by : {Y : Type 0} (g : KnownSystem → Y) (ys : List Y) (r : Result (Vec KnownSystem Global) AllocError) → IsOk r → IfOk r (λ v. map g v.items ≡ ys) → map g (known_in r) ≡ ys
 known_by g ys (Ok v) there is = is
 known_by g ys (Err e) there is = let f : false ≡ true = there in absurd (cc)

@@ -7,7 +7,7 @@ use Rattle.std.proofs.Common.{Global}
 use Rattle.affine_forms.specs.Affine.{Constraints}
 use Rattle.affine_forms.specs.System.{plain_system}
 use Rattle.affine_systems.specs.declared.obligation.Obligation.{Obligation}
-use Rattle.ob_check.specs.declared.known.Known.{Known}
+use Rattle.ob_check.specs.declared.known.KnownSystem.{KnownSystem}
 use Rattle.ob_check.specs.declared.found.Found.{Found}
 use Rattle.ob_check.specs.declared.found.Found.TheVariants.{Kept, Missing}
 
@@ -16,11 +16,11 @@ abbrev pub systems_of : List Obligation → List Constraints
 systems_of os = map (λ o. plain_system o.system) os
 
 -- the system whose verdict is known
-abbrev pub system_known : Known → Constraints
+abbrev pub system_known : KnownSystem → Constraints
 system_known k = plain_system k.system.now
 
 -- what a chunk gave, nothing where memory ran out
-abbrev pub known_in : Result (Vec Known Global) AllocError → List Known
+abbrev pub known_in : Result (Vec KnownSystem Global) AllocError → List KnownSystem
 known_in (Ok v) = v.items
 known_in (Err e) = []
 
@@ -41,7 +41,7 @@ missing_of (Kept k ∷ fs) = missing_of fs
 missing_of (Missing s ∷ fs) = plain_system s.now ∷ missing_of fs
 
 -- of the systems that are decided, the first is the one that was looked up, if that was missing
-abbrev pub ComesFirst : Found → List Known → Type 0
+abbrev pub ComesFirst : Found → List KnownSystem → Type 0
 ComesFirst (Kept k) ds = ⊤
 ComesFirst (Missing s) [] = ⊥
 ComesFirst (Missing s) (d ∷ ds) = system_known d ≡ plain_system s.now

@@ -5,7 +5,7 @@ ghost use Rattle.ob_check.specs.Truth.{IsTrueOf, is_small};
 
 use crate::copy::copy_of;
 use crate::found::Found;
-use crate::known::Known;
+use crate::known::KnownSystem;
 use affine_forms::System;
 use affine_prover::Verdict;
 use affine_systems::Obligation;
@@ -74,7 +74,7 @@ impl Cache {
             return Found::Missing(system);
         }
         match self.verdicts.get(system).copied() {
-            Some(verdict) => Found::Kept(Known { system, verdict }),
+            Some(verdict) => Found::Kept(KnownSystem { system, verdict }),
             None => Found::Missing(system),
         }
     }
@@ -84,7 +84,7 @@ impl Cache {
         ensures { system_found result ≡ plain_system system.now }
     {
         match self.verdicts.peek(system).copied() {
-            Some(verdict) => Found::Kept(Known { system, verdict }),
+            Some(verdict) => Found::Kept(KnownSystem { system, verdict }),
             None => Found::Missing(system),
         }
     }
@@ -110,7 +110,7 @@ impl Cache {
     }
 
     /// Keeps a verdict, if its system is small enough.
-    fn keep(&mut self, alloc: Global, known: &Known<'_>) -> Result<(), AllocError>
+    fn keep(&mut self, alloc: Global, known: &KnownSystem<'_>) -> Result<(), AllocError>
         ensures { OnOk result (held self.new ≡ kept (held self.old) (system_known known.now)) }
     {
         if !is_small(known.system) {
@@ -122,7 +122,11 @@ impl Cache {
     }
 
     /// Keeps the verdicts on small systems, in order.
-    pub(crate) fn keep_all(&mut self, alloc: Global, all: &[Known<'_>]) -> Result<(), AllocError>
+    pub(crate) fn keep_all(
+        &mut self,
+        alloc: Global,
+        all: &[KnownSystem<'_>],
+    ) -> Result<(), AllocError>
         ensures { OnOk result (held self.new ≡ fold kept (held self.old) (map system_known all.now)) }
     {
         for known in all {

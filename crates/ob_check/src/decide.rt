@@ -5,7 +5,7 @@ ghost use Rattle.affine_forms.specs.System.{plain_system};
 ghost use Rattle.ob_check.specs.Systems.{system_known, known_in};
 
 use crate::gate::Gate;
-use crate::known::Known;
+use crate::known::KnownSystem;
 use affine_forms::System;
 use affine_prover::verdict;
 use std::alloc::{AllocError, Global};
@@ -25,14 +25,14 @@ fn decide_chunk<'a, G: Gate>(
     chunk: &[&'a System],
     number: usize,
     gate: &G,
-) -> Result<Vec<Known<'a>>, AllocError>
+) -> Result<Vec<KnownSystem<'a>>, AllocError>
     ensures { IfOk result (λ v. map system_known v.items ≡ map (λ s. plain_system s.now) chunk.now) }
 {
     gate.enter(number);
     let mut all = Vec::new(alloc);
     for system in chunk {
         let verdict = verdict(alloc, *system)?;
-        all.push(Known {
+        all.push(KnownSystem {
             system: *system,
             verdict,
         })?;
@@ -43,8 +43,8 @@ fn decide_chunk<'a, G: Gate>(
 /// What the chunks gave, one after the other.
 fn joined<'a>(
     alloc: Global,
-    chunks: Vec<Result<Vec<Known<'a>>, AllocError>>,
-) -> Result<Vec<Known<'a>>, AllocError>
+    chunks: Vec<Result<Vec<KnownSystem<'a>>, AllocError>>,
+) -> Result<Vec<KnownSystem<'a>>, AllocError>
     ensures joined { IfOk result (λ v. v.items ≡ flat_map known_in chunks.entry.items) }
     ensures all { IfOk result (λ _. All IsOk chunks.entry.items) }
 {
@@ -62,7 +62,7 @@ pub(crate) fn decide_all<'a, R: Threads + Sync, G: Gate>(
     alloc: Global,
     systems: &[&'a System],
     gate: &G,
-) -> Result<Vec<Known<'a>>, AllocError>
+) -> Result<Vec<KnownSystem<'a>>, AllocError>
     ensures { IfOk result (λ v. map system_known v.items ≡ map (λ s. plain_system s.now) systems.now) }
 {
     let size = chunk_size(systems.len());

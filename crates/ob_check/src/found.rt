@@ -6,7 +6,7 @@ ghost use Rattle.ob_check.specs.Held.{held};
 ghost use Rattle.ob_check.specs.Systems.{systems_of, system_found, missing_of};
 
 use crate::cache::Cache;
-use crate::known::Known;
+use crate::known::KnownSystem;
 use affine_forms::System;
 use affine_systems::Obligation;
 use std::alloc::{AllocError, Global};
@@ -15,7 +15,7 @@ use std::alloc::{AllocError, Global};
 #[derive(Clone, Copy, Drop)]
 pub(crate) enum Found<'a> {
     /// It keeps the verdict.
-    Kept(Known<'a>),
+    Kept(KnownSystem<'a>),
     /// It does not know the system.
     Missing(&'a System),
 }

@@ -7,7 +7,7 @@ use affine_prover::Verdict;
 
 /// A system whose verdict is known.
 #[derive(Clone, Copy, Drop)]
-pub(crate) struct Known<'a> {
+pub(crate) struct KnownSystem<'a> {
     pub(crate) system: &'a System,
     pub(crate) verdict: Verdict,
     pub(crate) ghost is_true: { IsTrueOf (plain_system system.now) verdict },

@@ -11,13 +11,13 @@ use crate::cache::Cache;
 use crate::decide::decide_all;
 use crate::found::{Found, missing};
 use crate::gate::Gate;
-use crate::known::Known;
+use crate::known::KnownSystem;
 use affine_prover::Verdict;
 use std::alloc::{AllocError, Global};
 use std::thread::Threads;
 
 /// A system that was looked up with its verdict, where the decided ones go on at `next`.
-fn known_of<'a>(found: &Found<'a>, decided: &[Known<'a>], next: usize) -> Known<'a>
+fn known_of<'a>(found: &Found<'a>, decided: &[KnownSystem<'a>], next: usize) -> KnownSystem<'a>
     requires { ComesFirst found.now (drop next decided.now) }
     ensures { system_known result ≡ system_found found.now }
 {
@@ -28,7 +28,7 @@ fn known_of<'a>(found: &Found<'a>, decided: &[Known<'a>], next: usize) -> Known<
 }
 
 /// The verdict on it.
-fn verdict_of(found: &Found<'_>, decided: &[Known<'_>], next: usize) -> Verdict
+fn verdict_of(found: &Found<'_>, decided: &[KnownSystem<'_>], next: usize) -> Verdict
     requires { ComesFirst found.now (drop next decided.now) }
     ensures { IsTrueOf (system_found found.now) result }
 {
@@ -58,7 +58,7 @@ fn own_count(found: &Found<'_>) -> usize
 }
 
 /// The answer on what was found, where the missing systems are decided in order.
-pub(crate) fn answer(found: &[Found<'_>], decided: &[Known<'_>]) -> Answer
+pub(crate) fn answer(found: &[Found<'_>], decided: &[KnownSystem<'_>]) -> Answer
     requires { map system_known decided.now ≡ missing_of found.now }
     ensures exact { result ≡ answer_of (map elimination (map system_found found.now)) }
     ensures shown { ShownHasNoPoint (map system_found found.now) result }
@@ -78,8 +78,8 @@ pub(crate) fn answer(found: &[Found<'_>], decided: &[Known<'_>]) -> Answer
 pub(crate) fn all_known<'a>(
     alloc: Global,
     found: &[Found<'a>],
-    decided: &[Known<'a>],
-) -> Result<Vec<Known<'a>>, AllocError>
+    decided: &[KnownSystem<'a>],
+) -> Result<Vec<KnownSystem<'a>>, AllocError>
     requires { map system_known decided.now ≡ missing_of found.now }
     ensures { IfOk result (λ v. map system_known v.items ≡ map system_found found.now) }
 {
@@ -106,7 +106,7 @@ pub(crate) fn decide_missing<'a, R: Threads + Sync, G: Gate>(
     alloc: Global,
     found: &[Found<'a>],
     gate: &G,
-) -> Result<Vec<Known<'a>>, AllocError>
+) -> Result<Vec<KnownSystem<'a>>, AllocError>
     ensures { IfOk result (λ v. map system_known v.items ≡ missing_of found.now) }
 {
     let missing = missing(alloc, found)?;

@@ -11,7 +11,7 @@ use crate::cache::Cache;
 use crate::decide::decide_all;
 use crate::found::peeked;
 use crate::gate::Gate;
-use crate::known::Known;
+use crate::known::KnownSystem;
 use crate::obligations::{all_known, decide_missing};
 use affine_forms::System;
 use std::alloc::{AllocError, Global};
@@ -24,7 +24,7 @@ fn decide_unknown<'a, R: Threads + Sync, G: Gate>(
     systems: &[&'a System],
     cache: &Cache,
     gate: &G,
-) -> Result<Vec<Known<'a>>, AllocError>
+) -> Result<Vec<KnownSystem<'a>>, AllocError>
     ensures { IfOk result (λ v. map system_known v.items
         ≡ map (λ s. plain_system s.now) systems.now) }
 {
@@ -74,7 +74,7 @@ impl Pending {
         alloc: Global,
         systems: &[&'a System],
         gate: &G,
-    ) -> Result<Vec<Known<'a>>, AllocError>
+    ) -> Result<Vec<KnownSystem<'a>>, AllocError>
         ensures { IfOk result (λ v. map system_known v.items
             ≡ map (λ s. plain_system s.now) systems.now) }
     {
@@ -85,7 +85,7 @@ impl Pending {
     }
 
     /// Lets verdicts wait, behind those that do.
-    pub(crate) fn put(&mut self, alloc: Global, all: &[Known<'_>]) -> Result<(), AllocError>
+    pub(crate) fn put(&mut self, alloc: Global, all: &[KnownSystem<'_>]) -> Result<(), AllocError>
         ensures { (ss : List Constraints)
             → ArePending ss self.old
             → OnOk result (ArePending (ss ++ map system_known all.now) self.new) }

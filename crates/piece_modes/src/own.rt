@@ -14,7 +14,7 @@ ghost use Rattle.piece_modes.specs.Touching.{block_touches};
 ghost use Rattle.piece_modes.specs.Way.{around_of};
 ghost use Rattle.place_laws.specs.Scope.Roots.{own_roots_at};
 
-use crate::touches::{Asked, Mode};
+use crate::touches::{Mode, TouchQuestion};
 use crate::way::Way;
 use exo_modes::{Alias, ModeTable};
 use exo_tree::{Block, Path, Proc, Unit};
@@ -46,7 +46,7 @@ pub fn touches_buffer(
         (block b.now) y) }
     ensures kept { OnOk result (aliases.new.items ≡ aliases.old.items) }
 {
-    let asked = Asked {
+    let asked = TouchQuestion {
         unit,
         modes,
         mode,

@@ -50,7 +50,7 @@ impl Mode {
 /// What is asked: whether the buffer of an id is touched so, by the table of what each procedure of
 /// the unit touches.
 #[derive(Clone, Copy)]
-pub(crate) struct Asked<'a> {
+pub(crate) struct TouchQuestion<'a> {
     pub(crate) unit: &'a Unit,
     pub(crate) modes: &'a ModeTable,
     pub(crate) mode: Mode,
@@ -78,7 +78,7 @@ fn reads_from(aliases: &[Alias], y: u32, e: &DataExpr) -> bool
     }
 }
 
-impl Asked<'_> {
+impl TouchQuestion<'_> {
     /// Whether a parameter of a procedure is touched so and an argument is part of the buffer.
     fn is_passed(&self, aliases: &[Alias], k: ProcId, p: &Param, a: &Arg) -> bool
         ensures { result ≡ (callee_modes (program self.now.unit.now) k.0 (plain_mode self.now.mode)

@@ -16,9 +16,9 @@ use tree_edits::made::Fresh;
 /// The step that puts a `pass` in the place of a loop that has no turn. It owes just that: that the upper bound is at most
 /// the lower one. `WrongShape` where no loop stands there.
 #[derive(Drop)]
-pub struct Emptying;
+pub struct EliminatingLoop;
 
-impl Plain for Emptying {
+impl Plain for EliminatingLoop {
     ghost rule = { λ o. empty_loop_rule };
 
     ghost is_plain = { λ o. refl };
@@ -28,7 +28,7 @@ impl Plain for Emptying {
     ghost carrying = { λ o. empty_loop_is_carrying };
 }
 
-impl OnLoop for Emptying {
+impl OnLoop for EliminatingLoop {
     ghost read = { λ o. loop_of };
 
     ghost fit = { λ o l. true };

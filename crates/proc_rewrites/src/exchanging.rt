@@ -16,9 +16,9 @@ use tree_edits::made::Fresh;
 /// that the other writes. `WrongShape` where no two statements stand there, or the second mentions what the first binds;
 /// `ConfigWrite` where one may write a field that the other may write or read.
 #[derive(Drop)]
-pub struct Exchanging;
+pub struct ReorderingStatements;
 
-impl Ruled for Exchanging {
+impl Ruled for ReorderingStatements {
     ghost rule = { λ o. reorder_rule };
 
     ghost is_quiet = { λ o. refl };
@@ -40,7 +40,7 @@ impl Ruled for Exchanging {
     }
 }
 
-impl OnPiece for Exchanging {
+impl OnPiece for ReorderingStatements {
     fn piece(&self, alloc: Global, on: &Target<'_>, at: &Path) -> Result<Piece, StepError> {
         let piece = Piece {
             path: at.duplicate(),

@@ -17,11 +17,11 @@ use tree_edits::made::Fresh;
 /// always holds, or, for the branch after `else`, that it always fails. `WrongShape` where no condition stands there;
 /// `NameTaken` where the branch binds a name that is taken in the block round it.
 #[derive(Drop)]
-pub struct Keeping {
+pub struct KeepingBranch {
     pub keep: Branch,
 }
 
-impl Plain for Keeping {
+impl Plain for KeepingBranch {
     ghost rule = { λ o. keep_rule (branch_taken o.keep) };
 
     ghost is_plain = { λ o. refl };
@@ -31,7 +31,7 @@ impl Plain for Keeping {
     ghost carrying = { λ o. keep_is_carrying (branch_taken o.keep) };
 }
 
-impl OnPiece for Keeping {
+impl OnPiece for KeepingBranch {
     fn piece(&self, _alloc: Global, on: &Target<'_>, at: &Path) -> Result<Piece, StepError> {
         let piece = Piece::one(at);
         match fork_at(on, &piece) {

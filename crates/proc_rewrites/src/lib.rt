@@ -13,8 +13,8 @@ mod neighbours;
 mod removing;
 mod rounds;
 
-pub use emptying::Emptying;
-pub use exchanging::Exchanging;
-pub use keeping::Keeping;
+pub use emptying::EliminatingLoop;
+pub use exchanging::ReorderingStatements;
+pub use keeping::KeepingBranch;
 pub use lifting::Lifting;
-pub use removing::Removing;
+pub use removing::RemovingLoop;

@@ -21,9 +21,9 @@ use tree_edits::made::Fresh;
 /// outside, or a field, that it may write, directly, through views, or by calls; `NameTaken` where
 /// the body binds a name that is taken in the block round it.
 #[derive(Drop)]
-pub struct Removing;
+pub struct RemovingLoop;
 
-impl Ruled for Removing {
+impl Ruled for RemovingLoop {
     ghost rule = { λ o. remove_rule };
 
     ghost is_quiet = { λ o. refl };
@@ -44,7 +44,7 @@ impl Ruled for Removing {
     }
 }
 
-impl OnLoop for Removing {
+impl OnLoop for RemovingLoop {
     ghost read = { λ o. removable };
 
     ghost fit = { λ o l. not (in_block (λ x. x == l.binder.id) l.body) };

@@ -6,8 +6,8 @@ use Rattle.exo_tree.specs.Tree.{ConfigField}
 use Rattle.exo_meaning.specs.Units.{Scope, Reads}
 use Rattle.text_expressions.specs.Expression.{Tree, binary}
 use Rattle.text_expressions.specs.Views.{tree_of}
-use Rattle.text_expressions.specs.declared.source.Operator.{Operator}
-use Rattle.text_expressions.specs.declared.source.Operator.TheVariants.{Or, And, Lt, Le, Gt, Ge, Eq, Add, Sub, Mul, Div, Mod}
+use Rattle.text_expressions.specs.declared.source.Infix.{Infix}
+use Rattle.text_expressions.specs.declared.source.Infix.TheVariants.{Or, And, Lt, Le, Gt, Ge, Eq, Add, Sub, Mul, Div, Mod}
 use Rattle.text_expressions.specs.declared.source.SourceExpr.{SourceExpr}
 use Rattle.rules_names.specs.declared.fault.Fault.{Fault}
 use Rattle.rules_names.specs.declared.fault.Charge.{Charge}
@@ -25,7 +25,7 @@ picked b x y h = sym (ap (λ t. if t then x else y) h)
 other : {A : Type 0} (b : Bool) (x y : A) → b ≡ false → y ≡ (if b then x else y)
 other b x y h = sym (ap (λ t. if t then x else y) h)
 
-pub joins_no_arithmetic : (o : Operator) → joins_conditions o ≡ true → is_arithmetic o ≡ false
+pub joins_no_arithmetic : (o : Infix) → joins_conditions o ≡ true → is_arithmetic o ≡ false
 joins_no_arithmetic Or h = refl
 joins_no_arithmetic And h = refl
 joins_no_arithmetic Lt h = refl
@@ -40,7 +40,7 @@ joins_no_arithmetic Div h = sym h
 joins_no_arithmetic Mod h = sym h
 
 module _ (fields : List ConfigField) (may : Reads) (scope : Scope) where
-  pub told_arithmetic : (t left right : Tested) (f g : Bool) (n : ℕ) (o : Operator) (l r : Tree) → is_arithmetic o ≡ true
+  pub told_arithmetic : (t left right : Tested) (f g : Bool) (n : ℕ) (o : Infix) (l r : Tree) → is_arithmetic o ≡ true
       → t.charge ≡ charged (parts_then_whole (control_faults fields may scope n l ++ control_faults fields may scope (left.end + 1) r) (affine_faults o n (left.end + 1) (has_variables l && has_variables r) (is_divisor r)))
       → t.end ≡ right.end → t.fits ≡ true → Tells left (control_faults fields may scope n l) f n l → Tells right (control_faults fields may scope (left.end + 1) r) g (left.end + 1) r
       → Tells t (control_faults fields may scope n (binary o l r)) (may_be_control fields scope (binary o l r)) n (binary o l r)
@@ -53,7 +53,7 @@ module _ (fields : List ConfigField) (may : Reads) (scope : Scope) where
     form = s ∙ sym h;
   }
 
-  pub told_condition : (t left right : Tested) (f g : Bool) (n : ℕ) (o : Operator) (l r : Tree) → joins_conditions o ≡ true
+  pub told_condition : (t left right : Tested) (f g : Bool) (n : ℕ) (o : Infix) (l r : Tree) → joins_conditions o ≡ true
       → t.charge ≡ charged (condition_faults fields may scope n l ++ condition_faults fields may scope (left.end + 1) r)
       → t.end ≡ right.end → t.fits ≡ true → Tells left (condition_faults fields may scope n l) f n l → Tells right (condition_faults fields may scope (left.end + 1) r) g (left.end + 1) r
       → Tells t (condition_faults fields may scope n (binary o l r)) (may_be_condition fields scope (binary o l r)) n (binary o l r)
@@ -67,7 +67,7 @@ module _ (fields : List ConfigField) (may : Reads) (scope : Scope) where
         form = s ∙ sym (ap not apart);
       }
 
-  pub told_comparison : (t left right : Tested) (f g : Bool) (n : ℕ) (o : Operator) (l r : Tree) → joins_conditions o ≡ false → is_arithmetic o ≡ false
+  pub told_comparison : (t left right : Tested) (f g : Bool) (n : ℕ) (o : Infix) (l r : Tree) → joins_conditions o ≡ false → is_arithmetic o ≡ false
       → t.charge ≡ charged (control_faults fields may scope n l ++ control_faults fields may scope (left.end + 1) r)
       → t.end ≡ right.end → t.fits ≡ true → Tells left (control_faults fields may scope n l) f n l → Tells right (control_faults fields may scope (left.end + 1) r) g (left.end + 1) r
       → Tells t (condition_faults fields may scope n (binary o l r)) (may_be_condition fields scope (binary o l r)) n (binary o l r)
@@ -91,7 +91,7 @@ module _ (fields : List ConfigField) (may : Reads) (scope : Scope) where
   no_controls n [] h = refl
   no_controls n (x ∷ xs) h = grind (arith, nat_tests)
 
-pub told_sum : (fields : List ConfigField) (scope : Scope) (t left right : Tested) (f g : Bool) (n : ℕ) (o : Operator) (l r : Tree) → (is_arithmetic o && not (is_quotient o)) ≡ true
+pub told_sum : (fields : List ConfigField) (scope : Scope) (t left right : Tested) (f g : Bool) (n : ℕ) (o : Infix) (l r : Tree) → (is_arithmetic o && not (is_quotient o)) ≡ true
     → t.charge ≡ charged (data_faults fields scope n l ++ data_faults fields scope (left.end + 1) r)
     → t.end ≡ right.end → t.fits ≡ true → Tells left (data_faults fields scope n l) f n l → Tells right (data_faults fields scope (left.end + 1) r) g (left.end + 1) r
     → Tells t (data_faults fields scope n (binary o l r)) (may_be_data fields scope (binary o l r)) n (binary o l r)

@@ -11,7 +11,7 @@ use Rattle.exo_tree.specs.Tree.{Kind, Binder, ConfigField, Coord}
 use Rattle.exo_meaning.specs.Units.{Named, Scope, Reads, Sort, ControlName, BufferName, sort_in, plainly, is_truth, is_number, is_flag, is_text, is_of_literals, is_control, are_controls, is_condition, is_datum, is_access, is_window, is_coord, has_rank, has_dimension, field_kind, is_number_field, is_flag_field, is_new, with_name}
 use Rattle.text_lexer.specs.declared.token.Literal.{Literal}
 use Rattle.text_lexer.specs.declared.token.Literal.TheVariants.{Value, TooLarge}
-use Rattle.text_expressions.specs.declared.source.Operator.TheVariants as o
+use Rattle.text_expressions.specs.declared.source.Infix.TheVariants as o
 use Rattle.text_expressions.specs.Expression.{Tree, Trees, number, truth, variable, access, field, stride, relu, select, negative, parens, binary, end, next}
 use Rattle.rules_names.specs.declared.error.TypeKind.{TypeKind}
 use Rattle.rules_names.specs.declared.fault.Fault.{Fault}

@@ -4,7 +4,7 @@ use Rattle.rules_names.specs.ExpressionRules.{list_of}
 use Rattle.text_lexer.specs.declared.token.Literal.TheVariants.{Value}
 use Rattle.text_expressions.specs.Expression.{Tree, number, truth, variable, access, field, stride, relu, select, negative, parens, binary, trees}
 use Rattle.text_expressions.specs.Views.{tree_of, tree_step}
-use Rattle.text_expressions.specs.declared.source.Operator.{Operator}
+use Rattle.text_expressions.specs.declared.source.Infix.{Infix}
 use Rattle.text_expressions.specs.declared.source.SourceExpr.{SourceExpr}
 use Rattle.text_expressions.specs.declared.source.SourceExpr.TheVariants.{Int, Truth, Name, Access, Field, Stride, Relu, Select, Negative, Parens, Binary, rolls-Int, rolls-Truth, rolls-Name, rolls-Access, rolls-Field, rolls-Stride, rolls-Relu, rolls-Select, rolls-Negative, rolls-Parens, rolls-Binary}
 use Rattle.text_expressions.specs.declared.source.SourceExpr.TheFolds.{fold-roll-SourceExpr}
@@ -39,11 +39,11 @@ seen_negative e = ap tree_of (sym (rolls-Negative e)) ∙ fold-roll-SourceExpr T
 pub seen_parens : (e : _) → tree_of (Parens e) ≡ parens (tree_of e.value)
 seen_parens e = ap tree_of (sym (rolls-Parens e)) ∙ fold-roll-SourceExpr Tree tree_step _
 
-pub seen_binary : (o : Operator) (l r : _) → tree_of (Binary o l r) ≡ binary o (tree_of l.value) (tree_of r.value)
+pub seen_binary : (o : Infix) (l r : _) → tree_of (Binary o l r) ≡ binary o (tree_of l.value) (tree_of r.value)
 seen_binary o l r = ap tree_of (sym (rolls-Binary o l r)) ∙ fold-roll-SourceExpr Tree tree_step _
 
 -- two sides behind their boxes
-pub sides : (e : SourceExpr) (o : Operator) (l r : _) (a b : SourceExpr) → e ≡ Binary o l r → a ≡ l.value → b ≡ r.value → tree_of e ≡ binary o (tree_of a) (tree_of b)
+pub sides : (e : SourceExpr) (o : Infix) (l r : _) (a b : SourceExpr) → e ≡ Binary o l r → a ≡ l.value → b ≡ r.value → tree_of e ≡ binary o (tree_of a) (tree_of b)
 sides e o l r a b p q s = ap tree_of p ∙ seen_binary o l r ∙ ap (λ x. binary o (tree_of x) (tree_of r.value)) (sym q) ∙ ap (λ x. binary o (tree_of a) (tree_of x)) (sym s)
 
 -- a list of indices is the list that it was made of

@@ -2,7 +2,7 @@
 use Rattle.std.proofs.Common.{◌≡◌, ℕ, ◌+◌, Bool, true, false, ◌&&◌, ◌||◌, List, [], ◌++◌, refl, sym, ap, subst, ◌∙◌, arith, if◌then◌else◌, true≢false}
 use Rattle.text_expressions.specs.Expression.{Tree, access, relu, select, negative, parens, binary, trees}
 use Rattle.text_expressions.specs.Views.{tree_of}
-use Rattle.text_expressions.specs.declared.source.Operator.{Operator}
+use Rattle.text_expressions.specs.declared.source.Infix.{Infix}
 use Rattle.text_expressions.specs.declared.source.SourceExpr.{SourceExpr}
 use Rattle.rules_names.specs.declared.error.TypeKind.TheVariants.{KindMismatch}
 use Rattle.rules_names.specs.declared.fault.Fault.{Fault}
@@ -50,7 +50,7 @@ told_parens r inner faults wrong fits n e p q f told = record {
 }
 
 -- two sides
-pub told_end : (r left right : Tested) (f g : List Fault) (s t : Bool) (n : ℕ) (o : Operator) (a b : Tree) → r.end ≡ right.end → Tells left f s n a → Tells right g t (left.end + 1) b → r.end ≡ n + width (binary o a b)
+pub told_end : (r left right : Tested) (f g : List Fault) (s t : Bool) (n : ℕ) (o : Infix) (a b : Tree) → r.end ≡ right.end → Tells left f s n a → Tells right g t (left.end + 1) b → r.end ≡ n + width (binary o a b)
 told_end r left right f g s t n o a b q x y = let w = width_binary o a b in let u = x.end in let v = y.end in omega arith
 
 -- the right side begins behind the operator
@@ -84,7 +84,7 @@ joined_varies left right a b l r p q x y h = (
   y.told (hides_of right.charge b q ∙ hides_right a b h),
 )
 
-pub joined_charge : (left right : Tested) (a b : List Fault) (l r : Tree) (o : Operator) (n m : ℕ) (d : Bool) → left.charge ≡ charged a → right.charge ≡ charged b → Varies left l → Varies right r → d ≡ is_divisor r
+pub joined_charge : (left right : Tested) (a b : List Fault) (l r : Tree) (o : Infix) (n m : ℕ) (d : Bool) → left.charge ≡ charged a → right.charge ≡ charged b → Varies left l → Varies right r → d ≡ is_divisor r
     → parts_then_whole (a ++ b) (affine_faults o n m (left.variables && right.variables) d) ≡ parts_then_whole (a ++ b) (affine_faults o n m (has_variables l && has_variables r) (is_divisor r))
 joined_charge left right a b l r o n m d p q x y e =
     hidden (any_hides (a ++ b)) (a ++ b) _ _ refl (λ h.

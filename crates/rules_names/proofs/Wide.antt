@@ -1,7 +1,7 @@
 -- How many tokens source expressions have, form by form.
 use Rattle.std.proofs.Common.{◌≡◌, ℕ, suc, ◌+◌, Bool, List, map, ap, ◌∙◌}
 use Rattle.text_expressions.specs.Views.{tree_of}
-use Rattle.text_expressions.specs.declared.source.Operator.{Operator}
+use Rattle.text_expressions.specs.declared.source.Infix.{Infix}
 use Rattle.text_expressions.specs.declared.source.SourceExpr.{SourceExpr}
 use Rattle.text_expressions.specs.declared.source.SourceExpr.TheVariants.{Int, Truth, Name, Access, Field, Stride, Relu, Select, Negative, Parens, Binary}
 use Rattle.rules_names.specs.ExpressionRules.{width, closed_width}
@@ -41,5 +41,5 @@ wide_negative e b p = ap wide p ∙ ap width (seen_negative b) ∙ width_negativ
 pub wide_parens : (e : SourceExpr) (b : _) → e ≡ Parens b → width (tree_of e) ≡ suc (suc (width (tree_of b.value)))
 wide_parens e b p = ap wide p ∙ ap width (seen_parens b) ∙ width_parens _
 
-pub wide_binary : (e : SourceExpr) (o : Operator) (l r : _) → e ≡ Binary o l r → width (tree_of e) ≡ width (tree_of l.value) + suc (width (tree_of r.value))
+pub wide_binary : (e : SourceExpr) (o : Infix) (l r : _) → e ≡ Binary o l r → width (tree_of e) ≡ width (tree_of l.value) + suc (width (tree_of r.value))
 wide_binary e o l r p = ap wide p ∙ ap width (seen_binary o l r) ∙ width_binary o _ _

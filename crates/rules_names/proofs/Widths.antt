@@ -4,7 +4,7 @@ use Rattle.std.proofs.lemmas.List.{length-append}
 use Rattle.text_lexer.specs.declared.token.Literal.{Literal}
 use Rattle.text_lexer.specs.declared.token.Token.TheVariants as t
 use Rattle.text_lexer.specs.declared.token.Sign.TheVariants as s
-use Rattle.text_expressions.specs.declared.source.Operator.{Operator}
+use Rattle.text_expressions.specs.declared.source.Infix.{Infix}
 use Rattle.text_expressions.specs.Expression.{Tree, number, truth, variable, access, field, stride, relu, select, negative, parens, binary, trees, spelling, spelling_list, spelling_more}
 use Rattle.rules_names.specs.ExpressionRules.{width, commas_width, closed_width}
 
@@ -41,7 +41,7 @@ pub width_relu : (e : Tree) → width (relu e) ≡ suc (suc (suc (width e)))
 unfolding width
 width_relu e = let l = length-append (spelling e) (t.Sign s.Close ∷ []) in omega arith
 
-pub width_binary : (o : Operator) (l r : Tree) → width (binary o l r) ≡ width l + suc (width r)
+pub width_binary : (o : Infix) (l r : Tree) → width (binary o l r) ≡ width l + suc (width r)
 unfolding width
 width_binary o l r = length-append (spelling l) _
 

@@ -2,8 +2,8 @@
 use Rattle.std.specs.Prelude.{◌≡◌, nat_lt, Bool, true, false, ◌&&◌, List, is_some}
 use Rattle.exo_tree.specs.Tree.{ConfigField}
 use Rattle.text_lexer.specs.declared.token.Literal.TheVariants.{Value}
-use Rattle.text_expressions.specs.declared.source.Operator.{Operator}
-use Rattle.text_expressions.specs.declared.source.Operator.TheVariants as o
+use Rattle.text_expressions.specs.declared.source.Infix.{Infix}
+use Rattle.text_expressions.specs.declared.source.Infix.TheVariants as o
 use Rattle.text_expressions.specs.Expression.{Tree, number, truth, variable, field, stride}
 use Rattle.text_expressions.specs.Expression.{negative, parens, binary}
 use Rattle.exo_reader.specs.Source.{Coordinate, point, span}
@@ -18,7 +18,7 @@ is_count other = false
 
 -- two sides of an operator between control values: those of a sum or a product, or one that a
 -- literal divides
-abbrev pub sides_form : Operator → Bool → Bool → Bool → Bool
+abbrev pub sides_form : Infix → Bool → Bool → Bool → Bool
 sides_form o.Add l r counts = l && r
 sides_form o.Sub l r counts = l && r
 sides_form o.Mul l r counts = l && r
@@ -40,7 +40,7 @@ is_control_form (binary operator l r) =
 is_control_form other = false
 
 -- two sides of an operator between conditions, or of a comparison
-abbrev pub condition_sides : Operator → Bool → Bool → Bool
+abbrev pub condition_sides : Infix → Bool → Bool → Bool
 condition_sides o.Or conditions controls = conditions
 condition_sides o.And conditions controls = conditions
 condition_sides o.Lt conditions controls = controls

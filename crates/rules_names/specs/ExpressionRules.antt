@@ -9,9 +9,9 @@ use Rattle.exo_meaning.specs.Units.{Sort, ControlName, BufferName, Scope, Reads,
 use Rattle.exo_meaning.specs.Units.{is_number, is_flag}
 use Rattle.text_lexer.specs.declared.token.Literal.{Literal}
 use Rattle.text_lexer.specs.declared.token.Literal.TheVariants.{Value, TooLarge}
-use Rattle.text_expressions.specs.declared.source.Operator.{Operator}
-use Rattle.text_expressions.specs.declared.source.Operator.TheVariants.{Or, And}
-use Rattle.text_expressions.specs.declared.source.Operator.TheVariants.{Add, Sub, Mul, Div, Mod}
+use Rattle.text_expressions.specs.declared.source.Infix.{Infix}
+use Rattle.text_expressions.specs.declared.source.Infix.TheVariants.{Or, And}
+use Rattle.text_expressions.specs.declared.source.Infix.TheVariants.{Add, Sub, Mul, Div, Mod}
 use Rattle.text_expressions.specs.Expression.{Tree, Trees, number, truth, variable, access, field}
 use Rattle.text_expressions.specs.Expression.{stride, relu, select, negative, parens, binary, end}
 use Rattle.text_expressions.specs.Expression.{next, spelling}
@@ -38,7 +38,7 @@ closed_width (e ∷ es) = commas_width (e ∷ es)
 -- ---- forms
 
 -- sums, products, quotients; comparisons and what joins conditions
-abbrev pub is_arithmetic : Operator → Bool
+abbrev pub is_arithmetic : Infix → Bool
 is_arithmetic Add = true
 is_arithmetic Sub = true
 is_arithmetic Mul = true
@@ -46,12 +46,12 @@ is_arithmetic Div = true
 is_arithmetic Mod = true
 is_arithmetic _ = false
 
-abbrev pub is_quotient : Operator → Bool
+abbrev pub is_quotient : Infix → Bool
 is_quotient Div = true
 is_quotient Mod = true
 is_quotient other = false
 
-abbrev pub joins_conditions : Operator → Bool
+abbrev pub joins_conditions : Infix → Bool
 joins_conditions Or = true
 joins_conditions And = true
 joins_conditions other = false
@@ -130,7 +130,7 @@ list_of (next e more) = e ∷ list_of more
 
 -- A product has one side without variables, and what divides is a literal. Told are whether both
 -- sides have variables, and whether the right one is such a literal; right is its first token.
-abbrev pub affine_faults : Operator → ℕ → ℕ → Bool → Bool → List Fault
+abbrev pub affine_faults : Infix → ℕ → ℕ → Bool → Bool → List Fault
 affine_faults Mul n right vary divides = unless (not vary) NotAffine n
 affine_faults Div n right vary divides = unless divides NotAffine right
 affine_faults Mod n right vary divides = unless divides NotAffine right

@@ -8,8 +8,8 @@ use Rattle.exo_tree.specs.Tree.{Kind, ConfigField, Control, Condition, Datum}
 use Rattle.exo_meaning.specs.Units.{Scope}
 use Rattle.text_lexer.specs.declared.token.Literal.{Literal}
 use Rattle.text_lexer.specs.declared.token.Literal.TheVariants.{Value, TooLarge}
-use Rattle.text_expressions.specs.declared.source.Operator.{Operator}
-use Rattle.text_expressions.specs.declared.source.Operator.TheVariants as o
+use Rattle.text_expressions.specs.declared.source.Infix.{Infix}
+use Rattle.text_expressions.specs.declared.source.Infix.TheVariants as o
 use Rattle.text_expressions.specs.Expression.{Tree, number, truth, variable, access, field, stride}
 use Rattle.text_expressions.specs.Expression.{relu, select, negative, parens, binary}
 use Rattle.rules_names.specs.Names.{id_in, field_in, no_id}
@@ -29,7 +29,7 @@ divisor_of (parens e) = divisor_of e
 divisor_of other = 0
 
 -- an operator between two control values; what divides is a literal
-abbrev pub joined : Operator → Control → Control → ℕ → Control
+abbrev pub joined : Infix → Control → Control → ℕ → Control
 joined o.Add a b k = tree.Add a b
 joined o.Sub a b k = tree.Sub a b
 joined o.Mul a b k = tree.Mul a b
@@ -37,7 +37,7 @@ joined o.Div a b k = tree.Div a (pos k)
 joined o.Mod a b k = tree.Mod a (pos k)
 joined other a b k = tree.Lit (pos 0)
 
-abbrev pub compared : Operator → Control → Control → Condition
+abbrev pub compared : Infix → Control → Control → Condition
 compared o.Lt a b = tree.Lt a b
 compared o.Le a b = tree.Le a b
 compared o.Gt a b = tree.Gt a b
@@ -45,12 +45,12 @@ compared o.Ge a b = tree.Ge a b
 compared o.Eq a b = tree.Eq a b
 compared other a b = tree.False
 
-abbrev pub joined_conditions : Operator → Condition → Condition → Condition
+abbrev pub joined_conditions : Infix → Condition → Condition → Condition
 joined_conditions o.Or a b = tree.Or a b
 joined_conditions o.And a b = tree.And a b
 joined_conditions other a b = tree.False
 
-abbrev pub joined_data : Operator → Datum → Datum → Datum
+abbrev pub joined_data : Infix → Datum → Datum → Datum
 joined_data o.Add a b = tree.Plus a b
 joined_data o.Sub a b = tree.Minus a b
 joined_data o.Mul a b = tree.Times a b

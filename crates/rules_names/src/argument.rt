@@ -17,7 +17,7 @@ use crate::tested::{Names, all_of};
 use exo_reader::source::SourceCoord;
 use exo_tree::{Cond, Coords, Ctrl, Id};
 use std::alloc::{AllocError, Global};
-use text_expressions::source::{Operator, SourceExpr};
+use text_expressions::source::{Infix, SourceExpr};
 
 /// Why an expression in a string is refused.
 #[derive(Clone, Copy, Debug)]
@@ -51,12 +51,12 @@ fn is_count(e: &SourceExpr) -> bool
 }
 
 /// Two sides of an operator between control values.
-fn sides_form(operator: Operator, left: bool, right: bool, counts: bool) -> bool
+fn sides_form(operator: Infix, left: bool, right: bool, counts: bool) -> bool
     ensures { result ≡ sides_form operator left right counts }
 {
     match operator {
-        Operator::Add | Operator::Sub | Operator::Mul => all_of(left, right),
-        Operator::Div | Operator::Mod => all_of(left, counts),
+        Infix::Add | Infix::Sub | Infix::Mul => all_of(left, right),
+        Infix::Div | Infix::Mod => all_of(left, counts),
         _ => false,
     }
 }
@@ -83,12 +83,12 @@ pub fn is_control_form(e: &SourceExpr) -> bool
 }
 
 /// Two sides of an operator between conditions, or of a comparison.
-fn condition_sides(operator: Operator, conditions: bool, controls: bool) -> bool
+fn condition_sides(operator: Infix, conditions: bool, controls: bool) -> bool
     ensures { result ≡ condition_sides operator conditions controls }
 {
     match operator {
-        Operator::Or | Operator::And => conditions,
-        Operator::Lt | Operator::Le | Operator::Gt | Operator::Ge | Operator::Eq => controls,
+        Infix::Or | Infix::And => conditions,
+        Infix::Lt | Infix::Le | Infix::Gt | Infix::Ge | Infix::Eq => controls,
         _ => false,
     }
 }

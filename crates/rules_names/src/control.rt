@@ -24,7 +24,7 @@ use crate::tested::{
 };
 use crate::width::end_of;
 use exo_modes::{Reads, is_flag, is_number};
-use text_expressions::source::{Operator, SourceExpr};
+use text_expressions::source::{Infix, SourceExpr};
 use text_lexer::text::Text;
 
 /// The charge of the first token where it is a name that stands for nothing.
@@ -173,7 +173,7 @@ fn test_stride(names: &Names, may: Reads, n: usize, x: &Text, k: u32) -> Tested
 
 /// The test of two sides with an arithmetic operator between, which have been tested. The right side begins at token `middle`.
 fn joined(
-    operator: Operator,
+    operator: Infix,
     n: usize,
     left: Tested,
     right: Tested,

@@ -13,15 +13,15 @@ use crate::control::{enclosed, named, negated, test_controls, test_wrong_form};
 use crate::fault::Charge;
 use crate::tested::{Names, Tested, is_buffer, name_charge, rank_charge, suits};
 use exo_modes::PLAINLY;
-use text_expressions::source::{Operator, SourceExpr};
+use text_expressions::source::{Infix, SourceExpr};
 use text_lexer::text::Text;
 
 /// Sums and products, which values of cells have too.
-fn is_data_operator(operator: Operator) -> bool
+fn is_data_operator(operator: Infix) -> bool
     ensures { result ≡ (is_arithmetic operator && not (is_quotient operator)) }
 {
     match operator {
-        Operator::Add | Operator::Sub | Operator::Mul => true,
+        Infix::Add | Infix::Sub | Infix::Mul => true,
         _ => false,
     }
 }

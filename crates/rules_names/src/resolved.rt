@@ -15,10 +15,13 @@ use crate::tested::{Names, joins_conditions as is_joint};
 use exo_reader::source::SourceCoord;
 use exo_tree::{Cond, Coord, Coords, Ctrl, DataExpr, FieldId, Id, Indices};
 use std::alloc::{AllocError, Global};
-use text_expressions::source::{Operator, SourceExpr};
+use text_expressions::source::{Infix, SourceExpr};
 
 /// What stands for a name that is not in scope.
 pub const NO_ID: Id = Id(4294967295);
+
+/// What stands for a field that there is none of.
+const NO_FIELD: FieldId = FieldId(4294967295);
 
 /// The id of a name, or what stands for one that is not in scope.
 pub fn id_in(names: &Names, name: &str) -> Id
@@ -36,7 +39,7 @@ fn field_in(names: &Names, config: &str, name: &str) -> FieldId
 {
     match names.fields.get(config, name) {
         Some((field, _)) => field,
-        None => FieldId(4294967295),
+        None => NO_FIELD,
     }
 }
 
@@ -52,15 +55,15 @@ fn divisor_of(e: &SourceExpr) -> u32
 }
 
 /// Two control values with an operator between; what divides is a literal.
-fn joined(operator: Operator, left: Box<Ctrl>, right: Box<Ctrl>, divisor: u32) -> Ctrl
+fn joined(operator: Infix, left: Box<Ctrl>, right: Box<Ctrl>, divisor: u32) -> Ctrl
     ensures { control result ≡ joined operator (control left.value) (control right.value) divisor }
 {
     match operator {
-        Operator::Add => Ctrl::Add(left, right),
-        Operator::Sub => Ctrl::Sub(left, right),
-        Operator::Mul => Ctrl::Mul(left, right),
-        Operator::Div => Ctrl::Div(left, i64::from(divisor)),
-        Operator::Mod => Ctrl::Mod(left, i64::from(divisor)),
+        Infix::Add => Ctrl::Add(left, right),
+        Infix::Sub => Ctrl::Sub(left, right),
+        Infix::Mul => Ctrl::Mul(left, right),
+        Infix::Div => Ctrl::Div(left, i64::from(divisor)),
+        Infix::Mod => Ctrl::Mod(left, i64::from(divisor)),
         _ => Ctrl::Lit(0),
     }
 }
@@ -79,7 +82,7 @@ fn boxed_control(alloc: Global, names: &Names, e: &SourceExpr) -> Result<Box<Ctr
 fn arithmetic_of(
     alloc: Global,
     names: &Names,
-    operator: Operator,
+    operator: Infix,
     l: &SourceExpr,
     r: &SourceExpr,
 ) -> Result<Ctrl, AllocError>
@@ -114,15 +117,15 @@ pub fn control_of(alloc: Global, names: &Names, e: &SourceExpr) -> Result<Ctrl, 
 }
 
 /// The comparison of two control values.
-fn compared(operator: Operator, left: Ctrl, right: Ctrl) -> Cond
+fn compared(operator: Infix, left: Ctrl, right: Ctrl) -> Cond
     ensures { condition result ≡ compared operator (control left) (control right) }
 {
     match operator {
-        Operator::Lt => Cond::Lt(left, right),
-        Operator::Le => Cond::Le(left, right),
-        Operator::Gt => Cond::Gt(left, right),
-        Operator::Ge => Cond::Ge(left, right),
-        Operator::Eq => Cond::Eq(left, right),
+        Infix::Lt => Cond::Lt(left, right),
+        Infix::Le => Cond::Le(left, right),
+        Infix::Gt => Cond::Gt(left, right),
+        Infix::Ge => Cond::Ge(left, right),
+        Infix::Eq => Cond::Eq(left, right),
         _ => Cond::False,
     }
 }
@@ -131,7 +134,7 @@ fn compared(operator: Operator, left: Ctrl, right: Ctrl) -> Cond
 fn comparison_of(
     alloc: Global,
     names: &Names,
-    operator: Operator,
+    operator: Infix,
     l: &SourceExpr,
     r: &SourceExpr,
 ) -> Result<Cond, AllocError>
@@ -146,12 +149,12 @@ fn comparison_of(
 }
 
 /// Two conditions that are joined.
-fn joined_conditions(operator: Operator, left: Box<Cond>, right: Box<Cond>) -> Cond
+fn joined_conditions(operator: Infix, left: Box<Cond>, right: Box<Cond>) -> Cond
     ensures { condition result ≡ joined_conditions operator (condition left.value) (condition right.value) }
 {
     match operator {
-        Operator::Or => Cond::Or(left, right),
-        Operator::And => Cond::And(left, right),
+        Infix::Or => Cond::Or(left, right),
+        Infix::And => Cond::And(left, right),
         _ => Cond::False,
     }
 }
@@ -181,7 +184,7 @@ pub fn boxed_condition(
 fn junction_of(
     alloc: Global,
     names: &Names,
-    operator: Operator,
+    operator: Infix,
     l: &SourceExpr,
     r: &SourceExpr,
 ) -> Result<Cond, AllocError>
@@ -226,13 +229,13 @@ pub fn indices_of(alloc: Global, names: &Names, list: &[SourceExpr]) -> Result<I
 }
 
 /// Two values of cells with an operator between.
-fn joined_data(operator: Operator, left: Box<DataExpr>, right: Box<DataExpr>) -> DataExpr
+fn joined_data(operator: Infix, left: Box<DataExpr>, right: Box<DataExpr>) -> DataExpr
     ensures { datum result ≡ joined_data operator (datum left.value) (datum right.value) }
 {
     match operator {
-        Operator::Add => DataExpr::Add(left, right),
-        Operator::Sub => DataExpr::Sub(left, right),
-        Operator::Mul => DataExpr::Mul(left, right),
+        Infix::Add => DataExpr::Add(left, right),
+        Infix::Sub => DataExpr::Sub(left, right),
+        Infix::Mul => DataExpr::Mul(left, right),
         _ => DataExpr::Lit(0),
     }
 }
@@ -273,7 +276,7 @@ fn choice_of(
 fn operation_of(
     alloc: Global,
     names: &Names,
-    operator: Operator,
+    operator: Infix,
     l: &SourceExpr,
     r: &SourceExpr,
 ) -> Result<DataExpr, AllocError>

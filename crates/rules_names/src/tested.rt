@@ -17,7 +17,7 @@ use crate::scope::Scope;
 use crate::table::FieldTable;
 use exo_modes::Sort;
 use exo_tree::{FieldId, Kind};
-use text_expressions::source::{Operator, SourceExpr};
+use text_expressions::source::{Infix, SourceExpr};
 
 /// What names stand for: the fields of configurations, and the names in scope.
 #[derive(Clone, Copy)]
@@ -133,21 +133,21 @@ pub fn missing_field(field: Option<(FieldId, Kind)>, n: usize) -> Charge
 }
 
 /// Sums, products and quotients.
-pub fn is_arithmetic(operator: Operator) -> bool
+pub fn is_arithmetic(operator: Infix) -> bool
     ensures { result ≡ is_arithmetic operator }
 {
     match operator {
-        Operator::Add | Operator::Sub | Operator::Mul | Operator::Div | Operator::Mod => true,
+        Infix::Add | Infix::Sub | Infix::Mul | Infix::Div | Infix::Mod => true,
         _ => false,
     }
 }
 
 /// What joins conditions.
-pub fn joins_conditions(operator: Operator) -> bool
+pub fn joins_conditions(operator: Infix) -> bool
     ensures { result ≡ joins_conditions operator }
 {
     match operator {
-        Operator::Or | Operator::And => true,
+        Infix::Or | Infix::And => true,
         _ => false,
     }
 }
@@ -165,18 +165,12 @@ pub fn is_divisor(e: &SourceExpr) -> bool
 
 /// The charge of an operator's two sides: both have variables in a product, or the right one, which begins at token `right`, is no
 /// literal from 1 on in a quotient.
-pub fn affine_charge(
-    operator: Operator,
-    vary: bool,
-    divides: bool,
-    n: usize,
-    right: usize,
-) -> Charge
+pub fn affine_charge(operator: Infix, vary: bool, divides: bool, n: usize, right: usize) -> Charge
     ensures { result ≡ charged (affine_faults operator n right vary divides) }
 {
     match operator {
-        Operator::Mul => Charge::unless(!vary, TypeKind::NotAffine, n),
-        Operator::Div | Operator::Mod => Charge::unless(divides, TypeKind::NotAffine, right),
+        Infix::Mul => Charge::unless(!vary, TypeKind::NotAffine, n),
+        Infix::Div | Infix::Mod => Charge::unless(divides, TypeKind::NotAffine, right),
         _ => Charge::none(),
     }
 }

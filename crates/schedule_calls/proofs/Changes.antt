@@ -18,8 +18,8 @@ use Rattle.schedule_calls.specs.declared.operator.ControlOperator.{ControlOperat
 use Rattle.schedule_calls.specs.declared.operator.WordOperator.{WordOperator}
 use Rattle.schedule_calls.specs.declared.operator.ChangeOperator.{ChangeOperator}
 use Rattle.schedule_calls.specs.declared.operator.ChangeOperator.TheVariants as kind
-use Rattle.schedule_calls.specs.declared.operator.Operator.{Operator}
-use Rattle.schedule_calls.specs.declared.operator.Operator.TheVariants as operator
+use Rattle.schedule_calls.specs.declared.operator.OperatorName.{OperatorName}
+use Rattle.schedule_calls.specs.declared.operator.OperatorName.TheVariants as operator
 
 -- ---- arguments as they are read
 
@@ -33,7 +33,7 @@ pub none_read : (o : ChangeOperator) (args read : List ArgText) → args ≡ rea
 none_read o args read is never x asks =
     never x (subst (λ l. AsksChange o (map plain_argument l) x) is asks)
 
-pub operation_read : (o : Operator) (args read : List ArgText) (x : Operation) → args ≡ read
+pub operation_read : (o : OperatorName) (args read : List ArgText) (x : Operation) → args ≡ read
     → AsksOperation o (map plain_argument read) x → AsksOperation o (map plain_argument args) x
 operation_read o args read x is = subst (λ l. AsksOperation o (map plain_argument l) x) (sym is)
 

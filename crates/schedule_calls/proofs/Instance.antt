@@ -35,8 +35,8 @@ use Rattle.schedule_calls.specs.declared.operator.ControlOperator.TheVariants.{C
 use Rattle.schedule_calls.specs.declared.operator.WholeOperator.TheVariants.{DeletePass}
 use Rattle.schedule_calls.specs.declared.operator.ChangeOperator.{ChangeOperator}
 use Rattle.schedule_calls.specs.declared.operator.ChangeOperator.TheVariants as kind
-use Rattle.schedule_calls.specs.declared.operator.Operator.{Operator}
-use Rattle.schedule_calls.specs.declared.operator.Operator.TheVariants as operator
+use Rattle.schedule_calls.specs.declared.operator.OperatorName.{OperatorName}
+use Rattle.schedule_calls.specs.declared.operator.OperatorName.TheVariants as operator
 use Rattle.schedule_calls.proofs.Closed.{five, yes}
 use Rattle.schedule_calls.proofs.Strings as strings
 use Rattle.schedule_calls.proofs.Changes.{no_change, no_division, no_branch}
@@ -87,11 +87,11 @@ there = record {
 
 -- ---- lines
 
-by_name : (name : List ℕ) (o : Operator) (more : List tree.Argument) (x : Operation)
+by_name : (name : List ℕ) (o : OperatorName) (more : List tree.Argument) (x : Operation)
     → operator_of name ≡ Some o → AsksOperation o more x → Asks (line_of name more) (asks x)
 by_name name o more x is h = apply (codes "q") name (codes "p") (on_p more) o x is refl h
 
-not_by_name : (name : List ℕ) (o : Operator) (more : List tree.Argument)
+not_by_name : (name : List ℕ) (o : OperatorName) (more : List tree.Argument)
     → operator_of name ≡ Some o → ((x : Operation) → AsksOperation o more x → ⊥)
     → AsksNothing (line_of name more)
 not_by_name name o more is never = record {
@@ -122,7 +122,7 @@ none_behind : (o : CursorOperator) (x : Operation) → AsksOperation (operator.A
     → ⊥
 none_behind o x asks = without (operator.At (kind.Alone o)) [] x asks refl refl
   where
-    without : (p : Operator) (args : List tree.Argument) (y : Operation) → AsksOperation p args y
+    without : (p : OperatorName) (args : List tree.Argument) (y : Operation) → AsksOperation p args y
         → args ≡ [] → p ≡ operator.At (kind.Alone o) → ⊥
     without _ _ _ (at k a more asked change h j) is same = cc (is)
     without _ _ _ (whole w) is same = cc (same)
@@ -150,7 +150,7 @@ one_more o x asks = many (kind.Alone o) (held_c ∷ []) x asks refl refl
 no_bare : (x : Operation) → AsksOperation operator.Rename [] x → ⊥
 no_bare x asks = without operator.Rename [] x asks refl refl
   where
-    without : (p : Operator) (args : List tree.Argument) (y : Operation) → AsksOperation p args y
+    without : (p : OperatorName) (args : List tree.Argument) (y : Operation) → AsksOperation p args y
         → args ≡ [] → p ≡ operator.Rename → ⊥
     without _ _ _ (at k a more asked change h j) is same = cc (is)
     without _ _ _ (whole w) is same = cc (same)

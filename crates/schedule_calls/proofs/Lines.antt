@@ -8,7 +8,7 @@ use Rattle.schedule_text.specs.Views.{plain_move}
 use Rattle.schedule_text.specs.declared.source.Move as source
 use Rattle.schedule_calls.specs.Requests.{Operation, Request, Search, Moved}
 use Rattle.schedule_calls.specs.Operators.{operator_of}
-use Rattle.schedule_calls.specs.declared.operator.Operator.{Operator}
+use Rattle.schedule_calls.specs.declared.operator.OperatorName.{OperatorName}
 use Rattle.schedule_calls.specs.Readings.{IsPatternIn, IsWord, AsksOperation, Asks}
 use Rattle.schedule_calls.specs.Readings.{apply, search, moved, move, is_unknown}
 use Rattle.schedule_calls.specs.PlainRequest.{moves_of}
@@ -44,11 +44,11 @@ no_search bind f never _ (search _ _ p nth asks) = never (p, nth) asks
 
 -- ---- operators
 
-known : (name : List ℕ) (o p : Operator) → operator_of name ≡ Some o → operator_of name ≡ Some p
+known : (name : List ℕ) (o p : OperatorName) → operator_of name ≡ Some o → operator_of name ≡ Some p
     → o ≡ p
 known name o p h k = let same : Some o ≡ Some p = sym h ∙ k in cc (same)
 
-pub no_apply : (bind name : List ℕ) (args : tree.Arguments) (o : Operator)
+pub no_apply : (bind name : List ℕ) (args : tree.Arguments) (o : OperatorName)
     → operator_of name ≡ Some o → ((x : Operation) → AsksOperation o args.more x → ⊥)
     → (r : Request) → Asks (tree.bind bind (tree.operation name args)) r → ⊥
 no_apply bind name args o is never _ (apply _ _ of _ p x there word asks) =
@@ -63,6 +63,6 @@ pub no_operator : (bind name : List ℕ) (args : tree.Arguments) → operator_of
     → is_unknown (tree.bind bind (tree.operation name args)) ≡ true
 no_operator bind name args none = ap (λ found. not (is_some found)) none
 
-pub is_known : (bind name : List ℕ) (args : tree.Arguments) (o : Operator)
+pub is_known : (bind name : List ℕ) (args : tree.Arguments) (o : OperatorName)
     → operator_of name ≡ Some o → is_unknown (tree.bind bind (tree.operation name args)) ≡ false
 is_known bind name args o is = ap (λ found. not (is_some found)) is

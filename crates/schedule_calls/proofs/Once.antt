@@ -25,7 +25,7 @@ use Rattle.schedule_calls.specs.Readings.{eliminate_dead_code, AsksOperation, at
 use Rattle.schedule_calls.specs.Readings.{Asks, apply, search, moved, emit, is_unknown}
 use Rattle.schedule_calls.specs.Answers.{LinesAskOnce}
 use Rattle.schedule_calls.specs.declared.operator.ChangeOperator.{ChangeOperator}
-use Rattle.schedule_calls.specs.declared.operator.Operator.{Operator}
+use Rattle.schedule_calls.specs.declared.operator.OperatorName.{OperatorName}
 use Rattle.schedule_calls.proofs.Lines.{is_known}
 
 -- ---- strings
@@ -173,7 +173,7 @@ one_change one _ _ _ _ (divide_loop a b keys d h) (divide_loop _ _ _ e k) =
 one_change one _ _ _ _ (eliminate_dead_code keys t h) (eliminate_dead_code _ u k) =
     ap EliminateDeadCode (same_some t u (sym h ∙ k))
 
-one_operation : StringsAreOne → (o : Operator) (args : List tree.Argument) (x y : Operation)
+one_operation : StringsAreOne → (o : OperatorName) (args : List tree.Argument) (x y : Operation)
     → AsksOperation o args x → AsksOperation o args y → x ≡ y
 one_operation one _ _ _ _ (at o a more p c h i) (at _ _ _ q d k l) =
     ap₂ At (one_cursor one.pattern a p q h k) (one_change one o more c d i l)

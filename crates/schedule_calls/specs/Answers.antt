@@ -7,7 +7,7 @@ use Rattle.schedule_calls.specs.Requests.{Request as PlainRequest}
 use Rattle.schedule_calls.specs.Readings.{AsksChange, AsksOperation, Asks, is_unknown}
 use Rattle.schedule_calls.specs.PlainRequest.{plain_change, plain_operation, plain_request}
 use Rattle.schedule_calls.specs.declared.operator.ChangeOperator.{ChangeOperator}
-use Rattle.schedule_calls.specs.declared.operator.Operator.{Operator}
+use Rattle.schedule_calls.specs.declared.operator.OperatorName.{OperatorName}
 use Rattle.schedule_calls.specs.declared.request.Change.{Change}
 use Rattle.schedule_calls.specs.declared.request.Operation.{Operation}
 use Rattle.schedule_calls.specs.declared.request.Request.{Request}
@@ -23,7 +23,7 @@ AsksOne {X} {T} asks plain found =
 abbrev pub IsChange : ChangeOperator → List ArgText → Option Change → Type 0
 IsChange o args found = AsksOne (AsksChange o (map plain_argument args)) plain_change found
 
-abbrev pub IsOperation : Operator → List ArgText → Option Operation → Type 0
+abbrev pub IsOperation : OperatorName → List ArgText → Option Operation → Type 0
 IsOperation o args found =
     AsksOne (AsksOperation o (map plain_argument args)) plain_operation found
 

@@ -25,11 +25,11 @@ use Rattle.schedule_calls.specs.declared.operator.WordOperator.{WordOperator}
 use Rattle.schedule_calls.specs.declared.operator.WholeOperator.{WholeOperator}
 use Rattle.schedule_calls.specs.declared.operator.WholeOperator.TheVariants.{DeletePass}
 use Rattle.schedule_calls.specs.declared.operator.ChangeOperator.TheVariants as kind
-use Rattle.schedule_calls.specs.declared.operator.Operator.{Operator}
-use Rattle.schedule_calls.specs.declared.operator.Operator.TheVariants as operator
+use Rattle.schedule_calls.specs.declared.operator.OperatorName.{OperatorName}
+use Rattle.schedule_calls.specs.declared.operator.OperatorName.TheVariants as operator
 
 -- no two rows have one name
-abbrev pub names_differ : List (List ℕ × Operator) → Bool
+abbrev pub names_differ : List (List ℕ × OperatorName) → Bool
 names_differ [] = true
 names_differ (row ∷ more) = not (is_some (operator_among more row.0)) && names_differ more
 

@@ -8,11 +8,11 @@ use Rattle.schedule_calls.specs.declared.operator.WordOperator.TheVariants as wo
 use Rattle.schedule_calls.specs.declared.operator.WholeOperator.TheVariants as whole
 use Rattle.schedule_calls.specs.declared.operator.ChangeOperator.TheVariants as change
 use Rattle.schedule_calls.specs.declared.operator.ChangeOperator.TheVariants.{Alone, WithControl}
-use Rattle.schedule_calls.specs.declared.operator.Operator.{Operator}
-use Rattle.schedule_calls.specs.declared.operator.Operator.TheVariants.{At, Whole, Rename}
+use Rattle.schedule_calls.specs.declared.operator.OperatorName.{OperatorName}
+use Rattle.schedule_calls.specs.declared.operator.OperatorName.TheVariants.{At, Whole, Rename}
 
 -- each with its name
-abbrev pub rows : List (List ℕ × Operator)
+abbrev pub rows : List (List ℕ × OperatorName)
 rows =
     (codes "reorder_loops", At (Alone alone.ReorderLoops))
     ∷ (codes "divide_loop", At change.DivideLoop)
@@ -48,13 +48,13 @@ rows =
     ∷ []
 
 -- the operator of that name among some
-abbrev pub operator_among : List (List ℕ × Operator) → List ℕ → Option Operator
+abbrev pub operator_among : List (List ℕ × OperatorName) → List ℕ → Option OperatorName
 operator_among [] name = None
 operator_among (row ∷ more) name =
     if bytes_eq name row.0 then Some row.1 else operator_among more name
 
 -- the operator of that name; folded, so that no proof looks into the rows by chance
-unfoldable pub operator_of : List ℕ → Option Operator
+unfoldable pub operator_of : List ℕ → Option OperatorName
 operator_of name = operator_among rows name
 
 abbrev pub is_operator : List ℕ → Bool

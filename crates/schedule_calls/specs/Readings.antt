@@ -35,8 +35,8 @@ use Rattle.schedule_calls.specs.declared.operator.WordOperator.{WordOperator}
 use Rattle.schedule_calls.specs.declared.operator.WholeOperator.{WholeOperator}
 use Rattle.schedule_calls.specs.declared.operator.ChangeOperator.{ChangeOperator}
 use Rattle.schedule_calls.specs.declared.operator.ChangeOperator.TheVariants as kind
-use Rattle.schedule_calls.specs.declared.operator.Operator.{Operator}
-use Rattle.schedule_calls.specs.declared.operator.Operator.TheVariants as operator
+use Rattle.schedule_calls.specs.declared.operator.OperatorName.{OperatorName}
+use Rattle.schedule_calls.specs.declared.operator.OperatorName.TheVariants as operator
 
 -- ---- moves
 
@@ -211,7 +211,7 @@ pub data AsksChange : ChangeOperator → List tree.Argument → Change → Type 
       → AsksChange kind.EliminateDeadCode keys (EliminateDeadCode keep)
 
 -- what an operator asks, by its arguments behind the first
-pub data AsksOperation : Operator → List tree.Argument → Operation → Type 0 where
+pub data AsksOperation : OperatorName → List tree.Argument → Operation → Type 0 where
   at : (o : ChangeOperator) (a : tree.Argument) (more : List tree.Argument)
       → (asked : Asked) (change : Change)
       → AsksCursor a asked
@@ -225,7 +225,7 @@ pub data AsksOperation : Operator → List tree.Argument → Operation → Type 
 -- ---- lines
 
 pub data Asks : tree.Line → Request → Type 0 where
-  apply : (bind name of : List ℕ) (args : tree.Arguments) (o : Operator) (operation : Operation)
+  apply : (bind name of : List ℕ) (args : tree.Arguments) (o : OperatorName) (operation : Operation)
       → operator_of name ≡ Some o
       → IsWord args.head of
       → AsksOperation o args.more operation

@@ -8,6 +8,7 @@ use Rattle.schedule_calls.specs.declared.operator.CursorOperator.{CursorOperator
 use Rattle.schedule_calls.specs.declared.operator.ControlOperator.{ControlOperator}
 use Rattle.schedule_calls.specs.declared.operator.WordOperator.{WordOperator}
 use Rattle.schedule_calls.specs.declared.operator.WholeOperator.{WholeOperator}
+pub use Rattle.loop_laws.specs.DivideLoop.{Tail, Guard, Cut, CutAndGuard, Perfect}
 
 pub data Move : Type 0 where
   Parent Next Prev Body Before After : Move
@@ -25,10 +26,6 @@ pub data Source : Type 0 where
 pub record Asked : Type 0 where
   pub source : Source
   pub moves : List Move
-
--- what becomes of the turns that fill no group
-pub data Tail : Type 0 where
-  Guard Cut CutAndGuard Perfect : Tail
 
 -- so many turns a group, and the names of the loop over the groups and of that in a group
 pub record Division : Type 0 where

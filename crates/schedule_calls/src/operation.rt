@@ -2,11 +2,11 @@
 
 ghost use Rattle.std.specs.Prelude.{IfOk};
 ghost use Rattle.schedule_calls.specs.Answers.{IsOperation};
-ghost use Rattle.schedule_calls.specs.declared.operator.Operator.TheVariants as operator;
+ghost use Rattle.schedule_calls.specs.declared.operator.OperatorName.TheVariants as operator;
 
 use crate::argument::{cursor_of, name_in};
 use crate::change::change_of;
-use crate::operator::{ChangeOperator, Operator, WholeOperator};
+use crate::operator::{ChangeOperator, OperatorName, WholeOperator};
 use crate::request::Operation;
 use schedule_text::source::ArgText;
 use std::alloc::{AllocError, Global};
@@ -57,14 +57,14 @@ fn rename_of(alloc: Global, args: &[ArgText]) -> Result<Option<Operation<'_>>, A
 /// What the operator asks with these arguments behind its first.
 pub fn operation_of(
     alloc: Global,
-    operator: Operator,
+    operator: OperatorName,
     args: &[ArgText],
 ) -> Result<Option<Operation<'_>>, AllocError>
     ensures { IfOk result (IsOperation operator args.now) }
 {
     match operator {
-        Operator::At(kind) => at_of(alloc, kind, args),
-        Operator::Whole(kind) => Ok(whole_of(kind, args)),
-        Operator::Rename => rename_of(alloc, args),
+        OperatorName::At(kind) => at_of(alloc, kind, args),
+        OperatorName::Whole(kind) => Ok(whole_of(kind, args)),
+        OperatorName::Rename => rename_of(alloc, args),
     }
 }

@@ -4,7 +4,7 @@ ghost use Rattle.std.specs.Prelude.{◌≡◌, map};
 ghost use Rattle.schedule_calls.specs.Operators.{operator_among, operator_of};
 
 use ChangeOperator::{Alone, EliminateDeadCode, WithControl};
-use Operator::At;
+use OperatorName::At;
 use text_lexer::text::Text;
 
 /// Those that take a cursor and nothing more.
@@ -80,7 +80,7 @@ pub enum ChangeOperator {
 
 /// All of them, by the form of their arguments behind the first.
 #[derive(Clone, Copy)]
-pub enum Operator {
+pub enum OperatorName {
     /// `CURSOR, ..`
     At(ChangeOperator),
     /// None.
@@ -90,7 +90,7 @@ pub enum Operator {
 }
 
 /// The operators that there are, each with its name.
-const ROWS: [(&[u8], Operator); 31] = [
+const ROWS: [(&[u8], OperatorName); 31] = [
     (b"reorder_loops", At(Alone(CursorOperator::ReorderLoops))),
     (b"divide_loop", At(ChangeOperator::DivideLoop)),
     (b"cut_loop", At(WithControl(ControlOperator::CutLoop))),
@@ -106,8 +106,11 @@ const ROWS: [(&[u8], Operator); 31] = [
     (b"eliminate_dead_code", At(EliminateDeadCode)),
     (b"reorder_stmts", At(Alone(CursorOperator::ReorderStmts))),
     (b"commute_expr", At(ChangeOperator::CommuteExpr)),
-    (b"delete_pass", Operator::Whole(WholeOperator::DeletePass)),
-    (b"rename", Operator::Rename),
+    (
+        b"delete_pass",
+        OperatorName::Whole(WholeOperator::DeletePass),
+    ),
+    (b"rename", OperatorName::Rename),
     (
         b"set_memory",
         At(ChangeOperator::WithWord(WordOperator::SetMemory)),
@@ -130,11 +133,11 @@ const ROWS: [(&[u8], Operator); 31] = [
         b"call_eqv",
         At(ChangeOperator::WithWord(WordOperator::CallEqv)),
     ),
-    (b"simplify", Operator::Whole(WholeOperator::Simplify)),
+    (b"simplify", OperatorName::Whole(WholeOperator::Simplify)),
 ];
 
 /// The operator of that name among some.
-fn operator_among(mut rows: &[(&[u8], Operator)], name: &[u8]) -> Option<Operator>
+fn operator_among(mut rows: &[(&[u8], OperatorName)], name: &[u8]) -> Option<OperatorName>
     ensures { result ≡ operator_among (map (λ row. (row.0.now, row.1)) rows.entry.now) name.now }
 {
     while let [(word, operator), more @ ..] = rows {
@@ -147,7 +150,7 @@ fn operator_among(mut rows: &[(&[u8], Operator)], name: &[u8]) -> Option<Operato
 }
 
 /// The operator of that name.
-pub fn operator_of(name: &Text) -> Option<Operator>
+pub fn operator_of(name: &Text) -> Option<OperatorName>
     ensures { result ≡ operator_of name.now }
 {
     operator_among(&ROWS, name.as_slice())

@@ -12,7 +12,7 @@ use Rattle.schedule_calls.specs.declared.operator.WordOperator.TheVariants as wo
 use Rattle.schedule_calls.specs.declared.operator.WholeOperator.{WholeOperator}
 use Rattle.schedule_calls.specs.declared.operator.WholeOperator.TheVariants as whole
 use Rattle.schedule_calls.specs.declared.operator.ChangeOperator.{ChangeOperator}
-use Rattle.schedule_calls.specs.declared.operator.Operator.{Operator}
+use Rattle.schedule_calls.specs.declared.operator.OperatorName.{OperatorName}
 use Rattle.schedule_calls.specs.Requests.{Asked, Window, Change, Alone, WithControl, WithWord}
 use Rattle.schedule_calls.specs.Requests.{MultLoops, Specialize, CommuteExpr, BindExpr, ExpandDim}
 use Rattle.schedule_calls.specs.Requests.{StageMem, WriteConfig, BindConfig, DivideLoop}
@@ -70,7 +70,7 @@ change_form _ _ _ (asks.bind_config a b c param config field h i k) = refl
 change_form _ _ _ (asks.divide_loop a b keys d h) = refl
 change_form _ _ _ (asks.eliminate_dead_code keys keep h) = refl
 
-operation_form : (o : Operator) (args : List tree.Argument) (operation : Operation)
+operation_form : (o : OperatorName) (args : List tree.Argument) (operation : Operation)
     → AsksOperation o args operation → has_form operation ≡ true
 operation_form _ _ _ (asks.at o a more asked change h k) = change_form o more change k
 operation_form _ _ _ (asks.whole o) = refl

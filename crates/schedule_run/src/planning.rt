@@ -13,7 +13,7 @@ ghost use Rattle.step_driver.specs.PlainTarget.{target};
 ghost use Rattle.step_driver.specs.Tables.{HasTables};
 ghost use Rattle.schedule_calls.specs.PlainRequest.{plain_asked, plain_change, plain_division};
 ghost use Rattle.schedule_calls.specs.PlainRequest.{plain_operation, plain_tail};
-ghost use Rattle.schedule_laws.specs.Operators.Arguments.{division_of, tail_of};
+ghost use Rattle.schedule_laws.specs.Operators.Arguments.{division_of};
 ghost use Rattle.schedule_laws.specs.Operators.Calls.{gap_call, procedure_call, statement_call};
 ghost use Rattle.schedule_laws.specs.Operators.Operators.{call_of, change_call, cursor_call};
 ghost use Rattle.schedule_laws.specs.Operators.Operators.{dead_code_rule, whole_call, word_call};
@@ -35,7 +35,7 @@ use field_rewrites::DeletingField;
 use loop_rewrites::nest::{Fissioning, Fusing, Joining, Reordering};
 use loop_rewrites::{Dividing, Multiplying, Unrolling};
 use proc_rewrites::expressions::{Commuting, Deleting, Renaming};
-use proc_rewrites::{Emptying, Exchanging, Keeping, Lifting, Removing};
+use proc_rewrites::{EliminatingLoop, KeepingBranch, Lifting, RemovingLoop, ReorderingStatements};
 use schedule_calls::{
     Asked, Change, CursorOperator, Division, Operation, Tail, WholeOperator, WordOperator,
 };
@@ -135,14 +135,14 @@ fn eliminate_at(
         (dead_code_rule (option_map branch_taken keep)))) result }
 {
     match keep {
-        None => at_statement(alloc, on, s, at, &AtLoop(Emptying)),
-        Some(keep) => at_statement(alloc, on, s, at, &AtPiece(Keeping { keep })),
+        None => at_statement(alloc, on, s, at, &AtLoop(EliminatingLoop)),
+        Some(keep) => at_statement(alloc, on, s, at, &AtPiece(KeepingBranch { keep })),
     }
 }
 
 /// A tail as the step has it.
 fn tail_of(t: Tail) -> loop_rewrites::Tail
-    ensures { made.plain_tail result ≡ tail_of (plain_tail t) }
+    ensures { made.plain_tail result ≡ plain_tail t }
 {
     match t {
         Tail::Guard => loop_rewrites::Tail::Guard,
@@ -186,9 +186,15 @@ fn at_cursor(
         CursorOperator::Fission => fission_at(alloc, on, s, at),
         CursorOperator::Fuse => at_statement(alloc, on, s, at, &AtPiece(Fusing)),
         CursorOperator::UnrollLoop => at_statement(alloc, on, s, at, &AtPiece(Unrolling)),
-        CursorOperator::RemoveLoop => at_statement(alloc, on, s, at, &AtLoop(Removing)),
+        CursorOperator::RemoveLoop => at_statement(alloc, on, s, at, &AtLoop(RemovingLoop)),
         CursorOperator::LiftScope => at_statement(alloc, on, s, at, &AtPiece(Lifting)),
-        CursorOperator::ReorderStmts => at_statement(alloc, on, s, at, &AtPiece(Exchanging)),
+        CursorOperator::ReorderStmts => at_statement(
+            alloc,
+            on,
+            s,
+            at,
+            &AtPiece(ReorderingStatements),
+        ),
         CursorOperator::LiftAlloc => lift_alloc_at(alloc, on, s, at),
         CursorOperator::DeleteBuffer => at_statement(alloc, on, s, at, &AtPiece(DeletingBuffer)),
         CursorOperator::Inline => at_statement(alloc, on, s, at, &Inlining),

@@ -166,11 +166,11 @@ fn finish<O: Operator>(
 {
     let made = op.draft(alloc, on, piece, Writing::Simplified, &mut Fresh::new(base))?;
     let must = owed(alloc, on, piece, op)?;
-    conclude(alloc, on, piece, alone, base, made, must, op)
+    with_pass(alloc, on, piece, alone, base, made, must, op)
 }
 
-/// The result of what is drafted.
-fn conclude<O: Operator>(
+/// The result of what is drafted, or of a `pass` where nothing is.
+fn with_pass<O: Operator>(
     alloc: Global,
     on: &Target<'_>,
     piece: &Piece,
@@ -193,11 +193,11 @@ fn conclude<O: Operator>(
         (map plain_obligation must.items)) result }
 {
     let whole = passed(on, piece, alone, made)?;
-    settle(alloc, on, piece, alone, base, &whole, must, op)
+    kept_proposal(alloc, on, piece, alone, base, &whole, must, op)
 }
 
-/// The result of what is put in the place of the piece, and what is told of it.
-fn settle<O: Operator>(
+/// The result of what is put in the place of the piece, where it keeps the rules.
+fn kept_proposal<O: Operator>(
     alloc: Global,
     on: &Target<'_>,
     piece: &Piece,
@@ -219,9 +219,9 @@ fn settle<O: Operator>(
         (block whole.now)
         (map plain_obligation must.items)) result }
 {
-    let told = told(alloc, on, piece, alone, base, whole, must, op)?;
-    version_kept(alloc, on, base, &told.proc)?;
-    Ok(told)
+    let proposal = proposal_of(alloc, on, piece, alone, base, whole, must, op)?;
+    version_kept(alloc, on, base, &proposal.proc)?;
+    Ok(proposal)
 }
 
 /// Refuses where the result breaks a rule, uses what is not in scope, binds a name again, or passes
@@ -259,8 +259,8 @@ fn version_with<O: Operator>(
     version(alloc, on.proc, name, copies, &body)
 }
 
-/// What is told of the result.
-fn told<O: Operator>(
+/// The result and what is told of it.
+fn proposal_of<O: Operator>(
     alloc: Global,
     on: &Target<'_>,
     piece: &Piece,
@@ -282,7 +282,7 @@ fn told<O: Operator>(
         (block whole.now)
         (map plain_obligation must.items)) }
 {
-    let (edits, exit) = ways(alloc, on, piece, whole, op)?;
+    let (edits, exit) = edits_and_exit(alloc, on, piece, whole, op)?;
     let proc = version_with(alloc, on, piece, alone, base, whole, op)?;
     Ok(Proposal {
         proc,
@@ -295,7 +295,7 @@ fn told<O: Operator>(
 }
 
 /// Where the statements go, and the fields that may differ.
-fn ways<O: Operator>(
+fn edits_and_exit<O: Operator>(
     alloc: Global,
     on: &Target<'_>,
     piece: &Piece,

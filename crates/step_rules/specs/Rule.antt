@@ -3,6 +3,7 @@
 use Rattle.std.specs.Prelude.{ℕ, zero, List, [], Option, None}
 use Rattle.exo_tree.specs.Tree.{Block, Procedure, Program}
 use Rattle.exo_tree.specs.Places.{Path, Opened}
+pub use Rattle.exo_tree.specs.Places.{Piece}
 use Rattle.meaning_laws.specs.Facts.{Fact}
 use Rattle.config_laws.specs.Differing.{Origin}
 use Rattle.cursor_forward.specs.Cursors.{Side, Before}
@@ -21,11 +22,6 @@ pub record Target : Type 0 where
   pub origins : List Origin
   pub number : ℕ
   pub proc : Procedure
-
--- so many statements from a path on: those that are replaced
-pub record Piece : Type 0 where
-  pub path : Path
-  pub count : ℕ
 
 -- a piece of a procedure, with what stands there and what is round it
 pub record Spot : Type 0 where

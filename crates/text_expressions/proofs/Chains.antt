@@ -9,7 +9,7 @@ use Rattle.text_expressions.specs.Expression.{Tree, number, truth, variable, acc
 use Rattle.text_expressions.specs.Rooms.{Right}
 use Rattle.text_lexer.specs.declared.token.Literal.TheVariants.{Value}
 use Rattle.text_expressions.specs.Chain.{Link, with_links, LinksAt, Extends, Begun}
-use Rattle.text_expressions.specs.declared.source.Operator.{Operator}
+use Rattle.text_expressions.specs.declared.source.Infix.{Infix}
 use Rattle.text_lexer.specs.declared.token.Token.{Token}
 use Rattle.text_expressions.specs.declared.expression.Room.{Room}
 use Rattle.text_expressions.proofs.Signs.{left_low, compared_left, sign_same, follows_sign, sign_follows, follows_weaker}
@@ -118,7 +118,7 @@ taken_of_begun level room tokens left rest begun none = record {
 }
 
 -- after an operator of the level, what was read goes on by a link with that operator
-pub record Linked (level : ℕ) (left other : Tree) (operator : Operator) (x y : List Token) : Type 0 where
+pub record Linked (level : ℕ) (left other : Tree) (operator : Infix) (x y : List Token) : Type 0 where
   pub right : Tree
   pub links : List Link
   pub stands : Stands (suc level) right
@@ -126,7 +126,7 @@ pub record Linked (level : ℕ) (left other : Tree) (operator : Operator) (x y :
   pub is : other ≡ with_links (binary operator left right) links
   pub equal : x ≡ spelling right ++ (spelling_links links ++ y)
 
-linked_by : (level : ℕ) (left other : Tree) (operator : Operator) (x y : List Token) → level_of operator ≡ level → FollowsOperand level (first y) → (links : List Link) → LinksAt level links → other ≡ with_links left links → sign operator ∷ x ≡ spelling_links links ++ y → Linked level left other operator x y
+linked_by : (level : ℕ) (left other : Tree) (operator : Infix) (x y : List Token) → level_of operator ≡ level → FollowsOperand level (first y) → (links : List Link) → LinksAt level links → other ≡ with_links left links → sign operator ∷ x ≡ spelling_links links ++ y → Linked level left other operator x y
 linked_by level left other operator x y here follows [] at is equal =
     absurd (let h : level_of operator < level = sign_follows level operator (subst (λ (o : Option Token). FollowsOperand level o) (sym (ap first equal)) follows) in omega (arith, h))
 linked_by level left other operator x y here follows (l ∷ links) at is equal =
@@ -141,12 +141,12 @@ linked_by level left other operator x y here follows (l ∷ links) at is equal =
       equal = (let tails : x ≡ (spelling l.right ++ spelling_links links) ++ y = cc in tails ∙ append_assoc (spelling l.right) (spelling_links links) y);
     }
 
-pub linked : (limits : Limits) (level : ℕ) (room : Room) (tokens : List Token) (left other : Tree) (rest x y : List Token) (operator : Operator) → Begun level room tokens left rest → first rest ≡ Some (sign operator) → level_of operator ≡ level → (operand level room).Fits limits other → FollowsOperand level (first y) → spelling left ++ (sign operator ∷ x) ≡ spelling other ++ y → Linked level left other operator x y
+pub linked : (limits : Limits) (level : ℕ) (room : Room) (tokens : List Token) (left other : Tree) (rest x y : List Token) (operator : Infix) → Begun level room tokens left rest → first rest ≡ Some (sign operator) → level_of operator ≡ level → (operand level room).Fits limits other → FollowsOperand level (first y) → spelling left ++ (sign operator ∷ x) ≡ spelling other ++ y → Linked level left other operator x y
 linked limits level room tokens left other rest x y operator begun here_sign here fits follows equal =
     let extends : Extends level left other = begun.only limits other (sign operator ∷ x) y here_sign fits follows equal in
     linked_by level left other operator x y here follows extends.links extends.at extends.is (links_equal left extends.links other (sign operator ∷ x) y extends.is equal)
 
-pub begun_next : (level : ℕ) (room inner : Room) (tokens : List Token) (left : Tree) (after : List Token) (operator : Operator) (right : Tree) (rest : List Token) → Begun level room tokens left (sign operator ∷ after) → level_of operator ≡ level → Stands (left_level operator) left → Right room inner left → Taken (operand (suc level) inner) after right rest → Begun level room tokens (binary operator left right) rest
+pub begun_next : (level : ℕ) (room inner : Room) (tokens : List Token) (left : Tree) (after : List Token) (operator : Infix) (right : Tree) (rest : List Token) → Begun level room tokens left (sign operator ∷ after) → level_of operator ≡ level → Stands (left_level operator) left → Right room inner left → Taken (operand (suc level) inner) after right rest → Begun level room tokens (binary operator left right) rest
 begun_next level room inner tokens left after operator right rest begun here ready rights taken = record {
   fits = λ limits. ((omega arith, ready, subst (λ (k : ℕ). Stands (suc k) right) (sym here) (taken.fits limits).0), within_binary limits room inner operator left right rights (begun.fits limits).1 (taken.fits limits).1);
   whole = begun.whole ∙ ap (λ s. spelling left ++ (sign operator ∷ s)) taken.whole ∙ sym (append_assoc (spelling left) (sign operator ∷ spelling right) rest);
@@ -158,11 +158,11 @@ begun_next level room inner tokens left after operator right rest begun here rea
       record { links = link.links; at = link.at; is = link.is ∙ ap (λ r. with_links (binary operator left r) link.links) alike };
 }
 
-fits_binary : (limits : Limits) (level : ℕ) (room inner : Room) (left right : Tree) (operator : Operator) → level_of operator ≡ level → Stands (left_level operator) left → Right room inner left → Within limits room left → (operand (suc level) inner).Fits limits right → (operand level room).Fits limits (binary operator left right)
+fits_binary : (limits : Limits) (level : ℕ) (room inner : Room) (left right : Tree) (operator : Infix) → level_of operator ≡ level → Stands (left_level operator) left → Right room inner left → Within limits room left → (operand (suc level) inner).Fits limits right → (operand level room).Fits limits (binary operator left right)
 fits_binary limits level room inner left right operator here ready rights within fits =
     ((omega arith, ready, subst (λ (k : ℕ). Stands (suc k) right) (sym here) fits.0), within_binary limits room inner operator left right rights within fits.1)
 
-pub refused_right : (level : ℕ) (room inner : Room) (tokens : List Token) (left : Tree) (after : List Token) (operator : Operator) {cause : Cause} (last : ℕ) → Begun level room tokens left (sign operator ∷ after) → level_of operator ≡ level → Stands (left_level operator) left → Right room inner left → Refused (operand (suc level) inner) cause after last → Refused (operand level room) cause tokens last
+pub refused_right : (level : ℕ) (room inner : Room) (tokens : List Token) (left : Tree) (after : List Token) (operator : Infix) {cause : Cause} (last : ℕ) → Begun level room tokens left (sign operator ∷ after) → level_of operator ≡ level → Stands (left_level operator) left → Right room inner left → Refused (operand (suc level) inner) cause after last → Refused (operand level room) cause tokens last
 refused_right level room inner tokens left after operator {cause = cause} last begun here ready rights refused = record {
   before = spelling left ++ (sign operator ∷ refused.before);
   rest = refused.rest;
@@ -191,19 +191,19 @@ refused_right level room inner tokens left after operator {cause = cause} last b
 }
 
 -- no tree within the limits goes on with the operator
-no_link : (limits : Limits) (level : ℕ) (room : Room) (left other : Tree) (operator : Operator) (x y : List Token) → level_of operator ≡ level → ((l : Link) → Within limits room (binary l.operator left l.right) → ⊥) → Within limits room other → FollowsOperand level (first y) → Some (sign operator) ≡ first x → (links : List Link) → other ≡ with_links left links → x ≡ spelling_links links ++ y → ⊥
+no_link : (limits : Limits) (level : ℕ) (room : Room) (left other : Tree) (operator : Infix) (x y : List Token) → level_of operator ≡ level → ((l : Link) → Within limits room (binary l.operator left l.right) → ⊥) → Within limits room other → FollowsOperand level (first y) → Some (sign operator) ≡ first x → (links : List Link) → other ≡ with_links left links → x ≡ spelling_links links ++ y → ⊥
 no_link limits level room left other operator x y here full within follows head [] is equal =
     let h : level_of operator < level = sign_follows level operator (subst (λ (o : Option Token). FollowsOperand level o) (ap first (sym equal) ∙ sym head) follows) in omega (arith, h)
 no_link limits level room left other operator x y here full within follows head (l ∷ links) is equal =
     full l (within_front limits room (binary l.operator left l.right) other links is within)
 
-stuck_operator : (limits : Limits) (level : ℕ) (room : Room) (tokens : List Token) (left : Tree) (after : List Token) (operator : Operator) → Begun level room tokens left (sign operator ∷ after) → level_of operator ≡ level → ((l : Link) → Within limits room (binary l.operator left l.right) → ⊥) → (other : Tree) (x y : List Token) → Some (sign operator) ≡ first x → (operand level room).Fits limits other → FollowsOperand level (first y) → spelling left ++ x ≡ spelling other ++ y → ⊥
+stuck_operator : (limits : Limits) (level : ℕ) (room : Room) (tokens : List Token) (left : Tree) (after : List Token) (operator : Infix) → Begun level room tokens left (sign operator ∷ after) → level_of operator ≡ level → ((l : Link) → Within limits room (binary l.operator left l.right) → ⊥) → (other : Tree) (x y : List Token) → Some (sign operator) ≡ first x → (operand level room).Fits limits other → FollowsOperand level (first y) → spelling left ++ x ≡ spelling other ++ y → ⊥
 stuck_operator limits level room tokens left after operator begun here full other x y same fits follows equal =
     let extends : Extends level left other = begun.only limits other x y same fits follows equal in
     no_link limits level room left other operator x y here full fits.1 follows same extends.links extends.is (links_equal left extends.links other x y extends.is equal)
 
 -- the operator with a literal at its right
-goes_operator : (limits : Limits) (level : ℕ) (room : Room) (left : Tree) (after : List Token) (operator : Operator) → level_of operator ≡ level → Stands (left_level operator) left → Within limits room (binary operator left (number (Value 0))) → GoesOn (operand level room) limits (spelling left) (sign operator ∷ after)
+goes_operator : (limits : Limits) (level : ℕ) (room : Room) (left : Tree) (after : List Token) (operator : Infix) → level_of operator ≡ level → Stands (left_level operator) left → Within limits room (binary operator left (number (Value 0))) → GoesOn (operand level room) limits (spelling left) (sign operator ∷ after)
 goes_operator limits level room left after operator here ready within = record {
   tree = binary operator left (number (Value 0));
   token = sign operator;
@@ -214,7 +214,7 @@ goes_operator limits level room left after operator here ready within = record {
 }
 
 -- the left side is as deep as the room
-pub deep_operator : (level : ℕ) (room : Room) (tokens : List Token) (left : Tree) (after : List Token) (operator : Operator) → Begun level room tokens left (sign operator ∷ after) → level_of operator ≡ level → Stands (left_level operator) left → room.depth ≤ depth left → Refused (operand level room) too_deep tokens (length (sign operator ∷ after))
+pub deep_operator : (level : ℕ) (room : Room) (tokens : List Token) (left : Tree) (after : List Token) (operator : Infix) → Begun level room tokens left (sign operator ∷ after) → level_of operator ≡ level → Stands (left_level operator) left → room.depth ≤ depth left → Refused (operand level room) too_deep tokens (length (sign operator ∷ after))
 deep_operator level room tokens left after operator begun here ready deep = record {
   before = spelling left;
   rest = sign operator ∷ after;
@@ -227,7 +227,7 @@ deep_operator level room tokens left after operator begun here ready deep = reco
 }
 
 -- the left side leaves no node for a right one
-pub long_operator : (level : ℕ) (room : Room) (tokens : List Token) (left : Tree) (after : List Token) (operator : Operator) → Begun level room tokens left (sign operator ∷ after) → level_of operator ≡ level → Stands (left_level operator) left → depth left < room.depth → room.nodes ≤ nodes left + 1 → Refused (operand level room) too_long tokens (length (sign operator ∷ after))
+pub long_operator : (level : ℕ) (room : Room) (tokens : List Token) (left : Tree) (after : List Token) (operator : Infix) → Begun level room tokens left (sign operator ∷ after) → level_of operator ≡ level → Stands (left_level operator) left → depth left < room.depth → room.nodes ≤ nodes left + 1 → Refused (operand level room) too_long tokens (length (sign operator ∷ after))
 long_operator level room tokens left after operator begun here ready shallow long = record {
   before = spelling left;
   rest = sign operator ∷ after;
@@ -269,7 +269,7 @@ stands_front level left (l ∷ links) at stands =
     stands_weaker level (left_level l.operator) left (omega (arith, left_low l.operator)) inner.1
 
 -- a comparison takes no further link
-one_comparison : (operator : Operator) (left right other : Tree) (links : List Link) → level_of operator ≡ 2 → Stands 2 other → LinksAt 2 links → other ≡ with_links (binary operator left right) links → other ≡ binary operator left right
+one_comparison : (operator : Infix) (left right other : Tree) (links : List Link) → level_of operator ≡ 2 → Stands 2 other → LinksAt 2 links → other ≡ with_links (binary operator left right) links → other ≡ binary operator left right
 one_comparison operator left right other [] here stands at is = is
 one_comparison operator left right other (l ∷ links) here stands at is =
     let inner : Stands 2 (binary l.operator (binary operator left right) l.right) =
@@ -277,7 +277,7 @@ one_comparison operator left right other (l ∷ links) here stands at is =
     let tight : Stands 3 (binary operator left right) = subst (λ (k : ℕ). Stands k (binary operator left right)) (compared_left l.operator at.0) inner.1 in
     absurd (omega (arith, tight.0))
 
-pub taken_compared : (room : Room) (tokens : List Token) (operator : Operator) (left right : Tree) (rest : List Token) → level_of operator ≡ 2 → Begun 2 room tokens (binary operator left right) rest → Taken (operand 2 room) tokens (binary operator left right) rest
+pub taken_compared : (room : Room) (tokens : List Token) (operator : Infix) (left right : Tree) (rest : List Token) → level_of operator ≡ 2 → Begun 2 room tokens (binary operator left right) rest → Taken (operand 2 room) tokens (binary operator left right) rest
 taken_compared room tokens operator left right rest here begun = record {
   fits = begun.fits;
   whole = begun.whole;

@@ -1,11 +1,11 @@
 -- How tightly operators bind.
 use Rattle.std.proofs.Common.{◌≤◌, arith}
 use Rattle.text_expressions.specs.Expression.{level_of}
-use Rattle.text_expressions.specs.declared.source.Operator.{Operator}
-use Rattle.text_expressions.specs.declared.source.Operator.TheVariants.{Or, And, Lt, Le, Gt, Ge, Eq, Add, Sub, Mul, Div, Mod}
+use Rattle.text_expressions.specs.declared.source.Infix.{Infix}
+use Rattle.text_expressions.specs.declared.source.Infix.TheVariants.{Or, And, Lt, Le, Gt, Ge, Eq, Add, Sub, Mul, Div, Mod}
 
 -- no operator binds as tightly as what no operator splits
-pub level_at_most_four : (o : Operator) → level_of o ≤ 4
+pub level_at_most_four : (o : Infix) → level_of o ≤ 4
 level_at_most_four Or = omega arith
 level_at_most_four And = omega arith
 level_at_most_four Lt = omega arith

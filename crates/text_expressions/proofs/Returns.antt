@@ -11,7 +11,7 @@ use Rattle.text_expressions.specs.Expression.{Tree, number, truth, variable, acc
 use Rattle.text_expressions.specs.Rooms.{IsFull, Right}
 use Rattle.text_expressions.specs.Views.{tree_of, IsMeasured}
 use Rattle.text_expressions.specs.Chain.{Begun}
-use Rattle.text_expressions.specs.declared.source.Operator.{Operator}
+use Rattle.text_expressions.specs.declared.source.Infix.{Infix}
 use Rattle.text_expressions.specs.declared.expression.Room.{Room}
 use Rattle.text_expressions.specs.declared.expression.Measured.{Measured}
 use Rattle.text_lexer.specs.declared.token.Token.{Token}
@@ -129,13 +129,13 @@ end_err room tokens place none = subst (λ (ts : List Token). Refused (operand 5
 
 -- operators
 
-ready : (o : Operator) (level : ℕ) (left : Tree) → level_of o ≡ level → (level ≡ 2 → ⊥) → Stands level left → Stands (left_level o) left
+ready : (o : Infix) (level : ℕ) (left : Tree) → level_of o ≡ level → (level ≡ 2 → ⊥) → Stands level left → Stands (left_level o) left
 ready o level left here ne stands = subst (λ (k : ℕ). Stands k left) (sym (left_same o (λ two. ne (sym here ∙ two)) ∙ here)) stands
 
-compared : (o : Operator) (left : Tree) → level_of o ≡ 2 → Stands 3 left → Stands (left_level o) left
+compared : (o : Infix) (left : Tree) → level_of o ≡ 2 → Stands 3 left → Stands (left_level o) left
 compared o left here stands = subst (λ (k : ℕ). Stands k left) (sym (compared_left o here)) stands
 
-full_right : (level : ℕ) (room : Room) (tokens after : List Token) (m : Measured) (operator : Operator) (e : Refusal) → IsMeasured m → Begun level room tokens (tree_of m.tree.value) (sign operator ∷ after) → level_of operator ≡ level → Stands (left_level operator) (tree_of m.tree.value) → IsFull room m.depth (m.nodes + 1) (length (sign operator ∷ after)) e → Refuses (operand level room) tokens e
+full_right : (level : ℕ) (room : Room) (tokens after : List Token) (m : Measured) (operator : Infix) (e : Refusal) → IsMeasured m → Begun level room tokens (tree_of m.tree.value) (sign operator ∷ after) → level_of operator ≡ level → Stands (left_level operator) (tree_of m.tree.value) → IsFull room m.depth (m.nodes + 1) (length (sign operator ∷ after)) e → Refuses (operand level room) tokens e
 full_right level room tokens after m operator Memory measured begun here stands full = tt
 full_right level room tokens after m operator (Syntax last) measured begun here stands full = absurd full
 full_right level room tokens after m operator (TooDeep last) measured begun here stands full =
@@ -144,7 +144,7 @@ full_right level room tokens after m operator (TooLong last) measured begun here
     subst (Refused (operand level room) too_long tokens) (sym full.0) (long_operator level room tokens (tree_of m.tree.value) after operator begun here stands (omega (arith, full.1, measured.depth)) (omega (arith, full.2, measured.nodes)))
 full_right level room tokens after m operator (TooLarge last) measured begun here stands full = absurd full
 
-pub full_err : (level : ℕ) (room : Room) (tokens rest after : List Token) (m : Measured) (operator : Operator) (e : Refusal) → IsMeasured m → Begun level room tokens (tree_of m.tree.value) rest → (rest ≡ sign operator ∷ after) × (level_of operator ≡ level) → (level ≡ 2 → ⊥) → IsFull room m.depth (m.nodes + 1) (length rest) e → Refuses (operand level room) tokens e
+pub full_err : (level : ℕ) (room : Room) (tokens rest after : List Token) (m : Measured) (operator : Infix) (e : Refusal) → IsMeasured m → Begun level room tokens (tree_of m.tree.value) rest → (rest ≡ sign operator ∷ after) × (level_of operator ≡ level) → (level ≡ 2 → ⊥) → IsFull room m.depth (m.nodes + 1) (length rest) e → Refuses (operand level room) tokens e
 full_err level room tokens rest after m operator e measured begun here ne full =
     full_right level room tokens after m operator e measured (subst (Begun level room tokens (tree_of m.tree.value)) here.0 begun) here.1 (ready operator level (tree_of m.tree.value) here.1 ne (begun.fits in_size).0)
     (subst (λ (r : List Token). IsFull room m.depth (m.nodes + 1) (length r) e) here.0 full)
@@ -155,31 +155,31 @@ first_err level room tokens e refuses = refuses_along (operand (suc level) room)
 pub begun_first : (level : ℕ) (room : Room) (tokens rest : List Token) (left : Tree) → Taken (operand (level + 1) room) tokens left rest → Begun level room tokens left rest
 begun_first level room tokens rest left taken = begun_of_taken level room tokens left rest (rw add-one at taken)
 
-pub chain_err : (level : ℕ) (room inner : Room) (tokens rest after : List Token) (left : Tree) (operator : Operator) (e : Refusal) → Begun level room tokens left rest → (rest ≡ sign operator ∷ after) × (level_of operator ≡ level) → (level ≡ 2 → ⊥) → Right room inner left → Refuses (operand (level + 1) inner) after e → Refuses (operand level room) tokens e
+pub chain_err : (level : ℕ) (room inner : Room) (tokens rest after : List Token) (left : Tree) (operator : Infix) (e : Refusal) → Begun level room tokens left rest → (rest ≡ sign operator ∷ after) × (level_of operator ≡ level) → (level ≡ 2 → ⊥) → Right room inner left → Refuses (operand (level + 1) inner) after e → Refuses (operand level room) tokens e
 chain_err level room inner tokens rest after left operator e begun here ne right refuses =
     refuses_along (operand (suc level) inner) after (operand level room) tokens e
     (λ cause last refused. refused_right level room inner tokens left after operator last (subst (Begun level room tokens left) here.0 begun) here.1 (ready operator level left here.1 ne (begun.fits in_size).0) right refused)
     (rw add-one at refuses)
 
-pub chain_next : (level : ℕ) (room inner : Room) (tokens rest after behind : List Token) (left right tree : Tree) (operator : Operator) → Begun level room tokens left rest → (rest ≡ sign operator ∷ after) × (level_of operator ≡ level) → (level ≡ 2 → ⊥) → Right room inner left → Taken (operand (level + 1) inner) after right behind → tree ≡ binary operator left right → Begun level room tokens tree behind
+pub chain_next : (level : ℕ) (room inner : Room) (tokens rest after behind : List Token) (left right tree : Tree) (operator : Infix) → Begun level room tokens left rest → (rest ≡ sign operator ∷ after) × (level_of operator ≡ level) → (level ≡ 2 → ⊥) → Right room inner left → Taken (operand (level + 1) inner) after right behind → tree ≡ binary operator left right → Begun level room tokens tree behind
 chain_next level room inner tokens rest after behind left right tree operator begun here ne room_left taken is =
     rw is (begun_next level room inner tokens left after operator right behind (subst (Begun level room tokens left) here.0 begun) here.1 (ready operator level left here.1 ne (begun.fits in_size).0) room_left (rw add-one at taken))
 
 pub compare_none : (room : Room) (tokens rest : List Token) (left : Tree) → Taken (operand 3 room) tokens left rest → NoSign 2 rest → Taken (operand 2 room) tokens left rest
 compare_none room tokens rest left taken none = taken_of_begun 2 room tokens left rest (begun_of_taken 2 room tokens left rest taken) none
 
-pub compare_full : (room : Room) (tokens rest after : List Token) (m : Measured) (operator : Operator) (e : Refusal) → IsMeasured m → Taken (operand 3 room) tokens (tree_of m.tree.value) rest → (rest ≡ sign operator ∷ after) × (level_of operator ≡ 2) → IsFull room m.depth (m.nodes + 1) (length rest) e → Refuses (operand 2 room) tokens e
+pub compare_full : (room : Room) (tokens rest after : List Token) (m : Measured) (operator : Infix) (e : Refusal) → IsMeasured m → Taken (operand 3 room) tokens (tree_of m.tree.value) rest → (rest ≡ sign operator ∷ after) × (level_of operator ≡ 2) → IsFull room m.depth (m.nodes + 1) (length rest) e → Refuses (operand 2 room) tokens e
 compare_full room tokens rest after m operator e measured taken here full =
     full_right 2 room tokens after m operator e measured (subst (Begun 2 room tokens (tree_of m.tree.value)) here.0 (begun_of_taken 2 room tokens (tree_of m.tree.value) rest taken)) here.1 (compared operator (tree_of m.tree.value) here.1 (taken.fits in_size).0)
     (subst (λ (r : List Token). IsFull room m.depth (m.nodes + 1) (length r) e) here.0 full)
 
-pub compare_err : (room inner : Room) (tokens rest after : List Token) (left : Tree) (operator : Operator) (e : Refusal) → Taken (operand 3 room) tokens left rest → (rest ≡ sign operator ∷ after) × (level_of operator ≡ 2) → Right room inner left → Refuses (operand 3 inner) after e → Refuses (operand 2 room) tokens e
+pub compare_err : (room inner : Room) (tokens rest after : List Token) (left : Tree) (operator : Infix) (e : Refusal) → Taken (operand 3 room) tokens left rest → (rest ≡ sign operator ∷ after) × (level_of operator ≡ 2) → Right room inner left → Refuses (operand 3 inner) after e → Refuses (operand 2 room) tokens e
 compare_err room inner tokens rest after left operator e taken here right refuses =
     refuses_along (operand 3 inner) after (operand 2 room) tokens e
     (λ cause last refused. refused_right 2 room inner tokens left after operator last (subst (Begun 2 room tokens left) here.0 (begun_of_taken 2 room tokens left rest taken)) here.1 (compared operator left here.1 (taken.fits in_size).0) right refused)
     refuses
 
-pub compare_ok : (room inner : Room) (tokens rest after behind : List Token) (left right tree : Tree) (operator : Operator) → Taken (operand 3 room) tokens left rest → (rest ≡ sign operator ∷ after) × (level_of operator ≡ 2) → Right room inner left → Taken (operand 3 inner) after right behind → tree ≡ binary operator left right → Taken (operand 2 room) tokens tree behind
+pub compare_ok : (room inner : Room) (tokens rest after behind : List Token) (left right tree : Tree) (operator : Infix) → Taken (operand 3 room) tokens left rest → (rest ≡ sign operator ∷ after) × (level_of operator ≡ 2) → Right room inner left → Taken (operand 3 inner) after right behind → tree ≡ binary operator left right → Taken (operand 2 room) tokens tree behind
 compare_ok room inner tokens rest after behind left right tree operator taken here room_left right_taken is =
     rw is (taken_compared room tokens operator left right behind here.1
     (begun_next 2 room inner tokens left after operator right behind (subst (Begun 2 room tokens left) here.0 (begun_of_taken 2 room tokens left rest taken)) here.1 (compared operator left here.1 (taken.fits in_size).0) room_left right_taken))

@@ -6,7 +6,7 @@ use Rattle.text_phrases.proofs.Phrases.{keeps_map, keeps_both, keeps_all}
 use Rattle.text_expressions.specs.Expression.{Tree, number, truth, variable, access, field, stride, relu, select, negative, parens, binary, depth, nodes, IsShort, IsSmall, Within, under, HasPlace}
 use Rattle.text_expressions.specs.Chain.{Link, with_links}
 use Rattle.text_expressions.specs.Rooms.{Right}
-use Rattle.text_expressions.specs.declared.source.Operator.{Operator}
+use Rattle.text_expressions.specs.declared.source.Infix.{Infix}
 use Rattle.text_expressions.specs.declared.expression.Room.{Room}
 use Rattle.text_lexer.specs.declared.token.Literal.TheVariants.{Value}
 
@@ -60,14 +60,14 @@ within_front limits room left other links is within =
     (λ small. small_front left links (subst IsSmall is small)) within
 
 -- the right side of a chain's first operator is within what the left side leaves
-pub right_within : (limits : Limits) (room : Room) (operator : Operator) (left right other : Tree) (links : List Link) → other ≡ with_links (binary operator left right) links → Within limits room other → Within limits (under (nodes left + 1) room) right
+pub right_within : (limits : Limits) (room : Room) (operator : Infix) (left right other : Tree) (links : List Link) → other ≡ with_links (binary operator left right) links → Within limits room other → Within limits (under (nodes left + 1) room) right
 right_within limits room operator left right other links is within =
     keeps_map limits {E = depth right ≤ room.depth - 1} (λ deep. omega (arith, deep, le-max_right (depth left) (depth right)))
     (λ long. (omega (arith, long.0), long.1.1)) (λ small. small.1)
     (within_front limits room (binary operator left right) other links is within)
 
 -- an operator with a right side in the room that is left
-pub within_binary : (limits : Limits) (room inner : Room) (operator : Operator) (left right : Tree) → Right room inner left → Within limits room left → Within limits inner right → Within limits room (binary operator left right)
+pub within_binary : (limits : Limits) (room inner : Room) (operator : Infix) (left right : Tree) → Right room inner left → Within limits room left → Within limits inner right → Within limits room (binary operator left right)
 within_binary limits room inner operator left right rights one two =
     let two_in : Within limits (under (nodes left + 1) room) right = subst (λ (r : Room). Within limits r right) rights.is two in
     keeps_both limits

@@ -3,13 +3,13 @@ use Rattle.std.specs.Prelude.{◌≡◌, ℕ, suc, List, [], ◌∷◌, ◌++◌
 use Rattle.text_phrases.specs.Limits.{Limits}
 use Rattle.text_phrases.specs.Phrase.{first}
 use Rattle.text_expressions.specs.Expression.{Tree, binary, level_of, Stands, spelling, operand}
-use Rattle.text_expressions.specs.declared.source.Operator.{Operator}
+use Rattle.text_expressions.specs.declared.source.Infix.{Infix}
 use Rattle.text_lexer.specs.declared.token.Token.{Token}
 use Rattle.text_expressions.specs.declared.expression.Room.{Room}
 
 -- an operator and its right side
 pub record Link : Type 0 where
-  pub operator : Operator
+  pub operator : Infix
   pub right : Tree
 
 abbrev pub with_links : Tree → List Link → Tree

@@ -6,9 +6,9 @@ use Rattle.text_phrases.specs.Phrase.{first, Phrase}
 use Rattle.text_phrases.specs.Sequence.{exactly, then}
 use Rattle.text_phrases.specs.Commas.{listing}
 use Rattle.text_expressions.specs.Front.Values.{IsShortName, IsValue}
-use Rattle.text_expressions.specs.declared.source.Operator.{Operator}
-use Rattle.text_expressions.specs.declared.source.Operator.TheVariants.{Or, And, Lt, Le, Gt, Ge, Eq}
-use Rattle.text_expressions.specs.declared.source.Operator.TheVariants.{Add, Sub, Mul, Div, Mod}
+use Rattle.text_expressions.specs.declared.source.Infix.{Infix}
+use Rattle.text_expressions.specs.declared.source.Infix.TheVariants.{Or, And, Lt, Le, Gt, Ge, Eq}
+use Rattle.text_expressions.specs.declared.source.Infix.TheVariants.{Add, Sub, Mul, Div, Mod}
 use Rattle.text_lexer.specs.declared.token.Literal.{Literal}
 use Rattle.text_lexer.specs.declared.token.Sign.{Sign}
 use Rattle.text_lexer.specs.declared.token.Sign.TheVariants as s
@@ -35,7 +35,7 @@ mutual
     select : Tree → Tree → Tree → Tree → Tree
     negative : Tree → Tree
     parens : Tree → Tree
-    binary : Operator → Tree → Tree → Tree
+    binary : Infix → Tree → Tree → Tree
 
   pub data Trees : Type 0 where
     end : Trees
@@ -46,7 +46,7 @@ trees [] = end
 trees (tree ∷ more) = next tree (trees more)
 
 -- how tightly an operator binds: or, and, comparisons, sums, products
-abbrev pub level_of : Operator → ℕ
+abbrev pub level_of : Infix → ℕ
 level_of Or = 0
 level_of And = 1
 level_of Lt = 2
@@ -61,7 +61,7 @@ level_of Div = 4
 level_of Mod = 4
 
 -- which level its left side has: all but comparisons chain
-abbrev pub left_level : Operator → ℕ
+abbrev pub left_level : Infix → ℕ
 left_level Or = 0
 left_level And = 1
 left_level Lt = 3
@@ -75,7 +75,7 @@ left_level Mul = 4
 left_level Div = 4
 left_level Mod = 4
 
-abbrev pub sign : Operator → Token
+abbrev pub sign : Infix → Token
 sign Or = t.Word w.Or
 sign And = t.Word w.And
 sign Lt = t.Sign s.Less
@@ -90,7 +90,7 @@ sign Div = t.Sign s.Divide
 sign Mod = t.Sign s.Modulo
 
 -- the operator of a token between two expressions
-abbrev pub joins_by_sign : Sign → Option Operator
+abbrev pub joins_by_sign : Sign → Option Infix
 joins_by_sign s.Less = Some Lt
 joins_by_sign s.LessEqual = Some Le
 joins_by_sign s.Greater = Some Gt
@@ -103,12 +103,12 @@ joins_by_sign s.Divide = Some Div
 joins_by_sign s.Modulo = Some Mod
 joins_by_sign other = None
 
-abbrev pub joins_by_word : Word → Option Operator
+abbrev pub joins_by_word : Word → Option Infix
 joins_by_word w.Or = Some Or
 joins_by_word w.And = Some And
 joins_by_word other = None
 
-abbrev pub joins : Token → Option Operator
+abbrev pub joins : Token → Option Infix
 joins (t.Sign x) = joins_by_sign x
 joins (t.Word x) = joins_by_word x
 joins other = None
@@ -265,7 +265,7 @@ Closes (t.Sign s.Colon) = Unit {0}
 Closes t.NewLine = Unit {0}
 Closes other = ⊥
 
-abbrev pub FollowsBy : ℕ → Token → Option Operator → Type 0
+abbrev pub FollowsBy : ℕ → Token → Option Infix → Type 0
 FollowsBy level token (Some operator) = level_of operator < level
 FollowsBy level token None = Closes token
 
@@ -333,4 +333,4 @@ indices depth = listing (operand 0 (control_room depth)) (t.Sign s.Comma) FewDim
 -- no operator of this level stands first
 abbrev pub NoSign : ℕ → List Token → Type 0
 NoSign level tokens =
-    (operator : Operator) → first tokens ≡ Some (sign operator) → level_of operator ≡ level → ⊥
+    (operator : Infix) → first tokens ≡ Some (sign operator) → level_of operator ≡ level → ⊥

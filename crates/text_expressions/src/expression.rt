@@ -15,7 +15,7 @@ ghost use Rattle.text_expressions.specs.Rooms.{IsFull, Right};
 ghost use Rattle.text_lexer.specs.declared.token.Token.{Token};
 
 use crate::front::{Fixed, behind, expect_all, is_short, read_literal, read_name};
-use crate::source::{Operator, SourceExpr};
+use crate::source::{Infix, SourceExpr};
 use std::alloc::{AllocError, Global};
 use text_lexer::text::Text;
 use text_lexer::token::{Literal, Sign, Token, Word, next};
@@ -36,53 +36,53 @@ pub struct Measured {
     pub nodes: u32,
 }
 
-impl Operator {
+impl Infix {
     /// How tightly the operator binds, from 0 on.
     pub fn level(self) -> u8
         ensures { result ≡ level_of self }
     {
         match self {
-            Operator::Or => 0,
-            Operator::And => 1,
-            Operator::Lt | Operator::Le | Operator::Gt | Operator::Ge | Operator::Eq => 2,
-            Operator::Add | Operator::Sub => 3,
-            Operator::Mul | Operator::Div | Operator::Mod => 4,
+            Infix::Or => 0,
+            Infix::And => 1,
+            Infix::Lt | Infix::Le | Infix::Gt | Infix::Ge | Infix::Eq => 2,
+            Infix::Add | Infix::Sub => 3,
+            Infix::Mul | Infix::Div | Infix::Mod => 4,
         }
     }
 }
 
 /// The operator that the sign is between two expressions.
-fn sign_operator(sign: Sign) -> Option<Operator>
+fn sign_operator(sign: Sign) -> Option<Infix>
     ensures { result ≡ joins_by_sign sign }
 {
     match sign {
-        Sign::Less => Some(Operator::Lt),
-        Sign::LessEqual => Some(Operator::Le),
-        Sign::Greater => Some(Operator::Gt),
-        Sign::GreaterEqual => Some(Operator::Ge),
-        Sign::Equal => Some(Operator::Eq),
-        Sign::Plus => Some(Operator::Add),
-        Sign::Minus => Some(Operator::Sub),
-        Sign::Times => Some(Operator::Mul),
-        Sign::Divide => Some(Operator::Div),
-        Sign::Modulo => Some(Operator::Mod),
+        Sign::Less => Some(Infix::Lt),
+        Sign::LessEqual => Some(Infix::Le),
+        Sign::Greater => Some(Infix::Gt),
+        Sign::GreaterEqual => Some(Infix::Ge),
+        Sign::Equal => Some(Infix::Eq),
+        Sign::Plus => Some(Infix::Add),
+        Sign::Minus => Some(Infix::Sub),
+        Sign::Times => Some(Infix::Mul),
+        Sign::Divide => Some(Infix::Div),
+        Sign::Modulo => Some(Infix::Mod),
         _ => None,
     }
 }
 
 /// The operator that the word is between two expressions.
-fn word_operator(word: Word) -> Option<Operator>
+fn word_operator(word: Word) -> Option<Infix>
     ensures { result ≡ joins_by_word word }
 {
     match word {
-        Word::Or => Some(Operator::Or),
-        Word::And => Some(Operator::And),
+        Word::Or => Some(Infix::Or),
+        Word::And => Some(Infix::And),
         _ => None,
     }
 }
 
 /// The operator that a token is between two expressions.
-fn operator_of(token: &Token) -> Option<Operator>
+fn operator_of(token: &Token) -> Option<Infix>
     ensures { result ≡ joins token.now }
 {
     match token {
@@ -93,7 +93,7 @@ fn operator_of(token: &Token) -> Option<Operator>
 }
 
 /// The operator of this level that stands first, and the tokens behind it.
-fn operator_at(tokens: &[Token], level: u8) -> Option<(Operator, &[Token])>
+fn operator_at(tokens: &[Token], level: u8) -> Option<(Infix, &[Token])>
     ensures { MatchOption result (NoSign level tokens.now) (λ x. (tokens.now ≡ sign x.0 ∷ x.1.now) × (level_of x.0 ≡ level)) }
 {
     let (token, rest) = next(tokens)?;
@@ -186,7 +186,7 @@ fn right_room(left: &Measured, room: Room, remaining: usize) -> Result<Room, Ref
 fn joined(
     alloc: Global,
     left: Measured,
-    operator: Operator,
+    operator: Infix,
     right: Measured,
 ) -> Result<Measured, AllocError>
     requires measured { IsMeasured left × IsMeasured right }

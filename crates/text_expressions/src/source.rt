@@ -4,7 +4,7 @@ use text_lexer::text::Text;
 
 /// An operator between two expressions.
 #[derive(Clone, Copy)]
-pub enum Operator {
+pub enum Infix {
     /// `or`
     Or,
     /// `and`
@@ -52,5 +52,5 @@ pub enum SourceExpr {
     Negative(Box<SourceExpr>),
     /// An expression in parentheses.
     Parens(Box<SourceExpr>),
-    Binary(Operator, Box<SourceExpr>, Box<SourceExpr>),
+    Binary(Infix, Box<SourceExpr>, Box<SourceExpr>),
 }

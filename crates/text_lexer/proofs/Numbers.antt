@@ -1,6 +1,6 @@
 -- Decimal literals.
 use Rattle.std.proofs.Common.{◌≡◌, ℕ, suc, ◌+◌, ◌*◌, ◌-◌, ◌<◌, ◌≤◌, List, [], ◌∷◌, drop, length, get_or, arith, refl, ap, ◌∙◌, drop-cons, le-ltb}
-use Rattle.text_lexer.specs.Piece.{decimal, literal}
+use Rattle.text_lexer.specs.Lexeme.{decimal, literal}
 use Rattle.text_lexer.specs.declared.token.Literal.TheVariants.{TooLarge}
 
 -- more digits write no smaller number

@@ -9,7 +9,7 @@ use Rattle.std.proofs.lemmas.Slice.Eq.{bytes_eq-Decides}
 use Rattle.std.proofs.lemmas.Bool.{ltb-true}
 use Rattle.text_lexer.specs.Bytes.{is_printable, is_quote, begins_name, goes_on_name, escaped}
 use Rattle.text_lexer.specs.Quoted.{quoted, after_backslash, behind, ends, unescaped}
-use Rattle.text_lexer.specs.Piece.{word_of, word_token, decorator_of, name_piece, literal_piece, string_ending, decorated, lone_piece, longer_piece, sign_of, sign_with_equals, sign_piece, piece_of}
+use Rattle.text_lexer.specs.Lexeme.{word_of, word_token, decorator_of, name_lexeme, literal_lexeme, string_ending, decorated, lone_lexeme, longer_lexeme, sign_of, sign_with_equals, sign_lexeme, lexeme_of}
 use Rattle.text_lexer.specs.Layout.{at, put, token_of, lines, longer, is_skipped_return, tokens_in, is_fault, up_to_fault, line_tokens, brackets_after, is_import, innermost, still_open, blocks_at, indentation, is_foreign, line_end, with_end, Laid, begun, laid, end_place, layout, lexed}
 use Rattle.text_lexer.specs.Widths.{least_width, least_widths}
 use Rattle.text_lexer.proofs.FirstLine.{lines-some}
@@ -27,7 +27,7 @@ use Rattle.text_lexer.specs.declared.place.Placed.{Placed}
 use Rattle.text_lexer.specs.declared.quoted.Ending.{Ending}
 use Rattle.text_lexer.specs.declared.quoted.Ending.TheVariants.{Closed, Unclosed, Foreign}
 use Rattle.text_lexer.specs.declared.quoted.Quoted.{Quoted}
-use Rattle.text_lexer.specs.declared.piece.Piece.{Piece}
+use Rattle.text_lexer.specs.declared.lexeme.Lexeme.{Lexeme}
 
 -- words and decorators have two bytes or more
 
@@ -76,12 +76,12 @@ decorator_long text =
 
 -- a token at the front of n bytes takes some of them, and no fewer than at the least
 
-record IsSized (n : ℕ) (p : Piece) : Type 0 where
+record IsSized (n : ℕ) (p : Lexeme) : Type 0 where
   least : least_width p.token ≤ p.width
   some : 1 ≤ p.width
   within : p.width ≤ n
 
-sized_if : (n : ℕ) (test : Bool) (p q : Piece) → (test ≡ true → IsSized n p) → IsSized n q → IsSized n (cond test p q)
+sized_if : (n : ℕ) (test : Bool) (p q : Lexeme) → (test ≡ true → IsSized n p) → IsSized n q → IsSized n (cond test p q)
 sized_if n true p q one other = one refl
 sized_if n false p q one other = other
 
@@ -98,13 +98,13 @@ name_by text o true some long = some
 name_by text (Some word) false some long = long.long word refl
 name_by text None false some long = some
 
-name_sized : (n : ℕ) (text : List ℕ) → 1 ≤ length text → length text ≤ n → IsSized n (name_piece text)
+name_sized : (n : ℕ) (text : List ℕ) → 1 ≤ length text → length text ≤ n → IsSized n (name_lexeme text)
 name_sized n text some few = record { least = name_by text (word_of text) (bytes_eq text (codes "_")) some (word_long text); some = some; within = few }
 
-literal_by : (n d : ℕ) (digits : List ℕ) (nought : Bool) → suc (length digits) ≤ n → IsSized n (literal_piece (d ∷ digits))
+literal_by : (n d : ℕ) (digits : List ℕ) (nought : Bool) → suc (length digits) ≤ n → IsSized n (literal_lexeme (d ∷ digits))
 literal_by n d digits nought few = sized_if n (eqb d 0x30) _ _ (λ e. record { least = omega arith; some = omega arith; within = omega (arith, few) }) (record { least = omega arith; some = omega arith; within = omega (arith, few) })
 
-literal_sized : (n : ℕ) (digits : List ℕ) → 1 ≤ length digits → length digits ≤ n → IsSized n (literal_piece digits)
+literal_sized : (n : ℕ) (digits : List ℕ) → 1 ≤ length digits → length digits ≤ n → IsSized n (literal_lexeme digits)
 literal_sized n [] some few = absurd (omega (arith, some))
 literal_sized n (d ∷ digits) some few = literal_by n d digits true few
 
@@ -134,23 +134,23 @@ decorated_by : (n : ℕ) (text : List ℕ) (o : Option Decorator) → IsLong tex
 decorated_by n text (Some decorator) long few = record { least = omega (arith, long.long decorator refl); some = omega arith; within = few }
 decorated_by n text None long few = record { least = omega arith; some = omega arith; within = omega (arith, few) }
 
-lone_sized : (n : ℕ) (o : Option Sign) → 1 ≤ n → IsSized n (lone_piece o)
+lone_sized : (n : ℕ) (o : Option Sign) → 1 ≤ n → IsSized n (lone_lexeme o)
 lone_sized n (Some sign) some = record { least = omega arith; some = omega arith; within = some }
 lone_sized n None some = record { least = omega arith; some = omega arith; within = some }
 
-longer_sized : (n : ℕ) (o : Option Sign) (b : ℕ) → 2 ≤ n → IsSized n (longer_piece o b)
+longer_sized : (n : ℕ) (o : Option Sign) (b : ℕ) → 2 ≤ n → IsSized n (longer_lexeme o b)
 longer_sized n (Some sign) b some = record { least = omega arith; some = omega arith; within = some }
 longer_sized n None b some = lone_sized n (sign_of b) (omega (arith, some))
 
-sign_sized : (b : ℕ) (rest : List ℕ) → IsSized (suc (length rest)) (sign_piece b rest)
+sign_sized : (b : ℕ) (rest : List ℕ) → IsSized (suc (length rest)) (sign_lexeme b rest)
 sign_sized b [] = lone_sized 1 (sign_of b) (omega arith)
 sign_sized b (c ∷ rest) = sized_if (suc (suc (length rest))) (eqb c 0x3D) _ _ (λ e. longer_sized (suc (suc (length rest))) (sign_with_equals b) b (omega arith)) (lone_sized (suc (suc (length rest))) (sign_of b) (omega arith))
 
-foreign_sized : (n : ℕ) (p : Piece) → p.width ≡ 1 → least_width p.token ≡ 0 → 1 ≤ n → IsSized n p
+foreign_sized : (n : ℕ) (p : Lexeme) → p.width ≡ 1 → least_width p.token ≡ 0 → 1 ≤ n → IsSized n p
 foreign_sized n p one none some = record { least = omega (arith, none); some = omega (arith, one); within = omega (arith, one, some) }
 
-piece_sized : (b : ℕ) (rest : List ℕ) → IsSized (suc (length rest)) (piece_of (b ∷ rest))
-piece_sized b rest =
+lexeme_sized : (b : ℕ) (rest : List ℕ) → IsSized (suc (length rest)) (lexeme_of (b ∷ rest))
+lexeme_sized b rest =
     let n = suc (length rest) in
     sized_if n (begins_name b) _ _ (λ e. name_sized n (take_while goes_on_name (b ∷ rest)) (taken_some goes_on_name b rest (ap (λ (t : Bool). cond t true (is_ascii_digit b)) e)) (taken_few goes_on_name (b ∷ rest)))
     (sized_if n (is_ascii_digit b) _ _ (λ e. literal_sized n (take_while is_ascii_digit (b ∷ rest)) (taken_some is_ascii_digit b rest e) (taken_few is_ascii_digit (b ∷ rest)))
@@ -172,13 +172,13 @@ tokens_few : (line column covered : ℕ) (bytes : List ℕ) → least_in (tokens
 tokens_few line column covered [] = omega arith
 tokens_few line column (suc covered) (b ∷ rest) = omega (arith, tokens_few line (column + 1) covered rest)
 tokens_few line column zero (b ∷ rest) =
-    let piece = piece_of (b ∷ rest) in
-    let sized : IsSized (suc (length rest)) piece = piece_sized b rest in
+    let lexeme = lexeme_of (b ∷ rest) in
+    let sized : IsSized (suc (length rest)) lexeme = lexeme_sized b rest in
     omega (
       arith,
-      tokens_by (eqb b 0x20) (eqb b 0x23) (tokens_in line (column + 1) zero rest) (put (at line column) piece.token ∷ tokens_in line (column + 1) (piece.width - 1) rest) (suc (length rest))
+      tokens_by (eqb b 0x20) (eqb b 0x23) (tokens_in line (column + 1) zero rest) (put (at line column) lexeme.token ∷ tokens_in line (column + 1) (lexeme.width - 1) rest) (suc (length rest))
           (omega (arith, tokens_few line (column + 1) zero rest))
-          (omega (arith, tokens_few line (column + 1) (piece.width - 1) rest, sized.least, sized.some, sized.within)),
+          (omega (arith, tokens_few line (column + 1) (lexeme.width - 1) rest, sized.least, sized.some, sized.within)),
     )
 
 -- the first token stands at a column from this one on, and the bytes before it are no part of the others
@@ -198,11 +198,11 @@ starts_before column n (p ∷ more) starts = (omega (arith, starts.0), omega (ar
 tokens_start : (line column : ℕ) (bytes : List ℕ) → StartsBy column (column + length bytes) (tokens_in line column zero bytes)
 tokens_start line column [] = tt
 tokens_start line column (b ∷ rest) =
-    let piece = piece_of (b ∷ rest) in
-    let sized : IsSized (suc (length rest)) piece = piece_sized b rest in
-    starts_if (eqb b 0x20) (eqb b 0x23) (tokens_in line (column + 1) zero rest) (put (at line column) piece.token ∷ tokens_in line (column + 1) (piece.width - 1) rest) column (column + suc (length rest))
+    let lexeme = lexeme_of (b ∷ rest) in
+    let sized : IsSized (suc (length rest)) lexeme = lexeme_sized b rest in
+    starts_if (eqb b 0x20) (eqb b 0x23) (tokens_in line (column + 1) zero rest) (put (at line column) lexeme.token ∷ tokens_in line (column + 1) (lexeme.width - 1) rest) column (column + suc (length rest))
     (starts_before column (length rest) (tokens_in line (column + 1) zero rest) (tokens_start line (column + 1) rest))
-    (omega arith, omega (arith, tokens_few line (column + 1) (piece.width - 1) rest, sized.least, sized.some, sized.within))
+    (omega arith, omega (arith, tokens_few line (column + 1) (lexeme.width - 1) rest, sized.least, sized.some, sized.within))
 
 cut_by : (fault : Bool) (more cut : List Placed) → least_in cut ≤ least_in more → least_in (cond fault [] cut) ≤ least_in more
 cut_by true more cut few = omega arith

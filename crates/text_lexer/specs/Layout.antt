@@ -2,7 +2,7 @@
 use Rattle.std.specs.Prelude.{ℕ, zero, suc, ◌+◌, ◌-◌, List, [], ◌∷◌, ◌++◌, Bool, true, false}
 use Rattle.std.specs.Prelude.{if◌then◌else◌, nat_eq, nat_lt, length, replicate, bytes_eq, codes}
 use Rattle.std.specs.Prelude.{take}
-use Rattle.text_lexer.specs.Piece.{piece_of}
+use Rattle.text_lexer.specs.Lexeme.{lexeme_of}
 use Rattle.text_lexer.specs.declared.token.Token.{Token}
 use Rattle.text_lexer.specs.declared.token.Token.TheVariants as token
 use Rattle.text_lexer.specs.declared.token.Sign.{Sign}
@@ -55,8 +55,8 @@ tokens_in line column (suc covered) (b ∷ rest) = tokens_in line (column + 1) c
 tokens_in line column zero (b ∷ rest) =
     if nat_eq b 0x20 then tokens_in line (column + 1) zero rest
     else (if nat_eq b 0x23 then []
-    else put (at line column) (piece_of (b ∷ rest)).token
-    ∷ tokens_in line (column + 1) ((piece_of (b ∷ rest)).width - 1) rest)
+    else put (at line column) (lexeme_of (b ∷ rest)).token
+    ∷ tokens_in line (column + 1) ((lexeme_of (b ∷ rest)).width - 1) rest)
 
 -- nothing counts behind a fault
 abbrev pub is_fault : Token → Bool

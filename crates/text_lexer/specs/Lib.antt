@@ -1,5 +1,5 @@
 pub mod Bytes
 pub mod Quoted
-pub mod Piece
+pub mod Lexeme
 pub mod Layout
 pub mod Widths

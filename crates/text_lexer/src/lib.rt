@@ -4,9 +4,9 @@
 pub mod blocks;
 pub mod bytes;
 pub mod layout;
+pub mod lexeme;
 pub mod lexer;
 pub mod line;
-pub mod piece;
 pub mod place;
 pub mod quoted;
 pub mod text;

@@ -3,7 +3,7 @@
 ghost use Rattle.std.specs.Prelude.{◌≡◌, ◌+◌, ◌≤◌, ◌<◌, length, IfOk};
 ghost use Rattle.text_lexer.specs.Layout.{line_tokens, is_fault};
 
-use crate::piece::piece_of;
+use crate::lexeme::lexeme_of;
 use crate::place::{Place, Placed};
 use crate::token::Token;
 use std::alloc::{AllocError, Global};
@@ -38,20 +38,20 @@ pub fn line_tokens(alloc: Global, line: u32, bytes: &[u8]) -> Result<Vec<Placed>
         if byte == b'#' {
             break;
         }
-        let piece = piece_of(alloc, &bytes[start..])?;
+        let lexeme = lexeme_of(alloc, &bytes[start..])?;
         let place = Place {
             line,
             column: start as u32 + 1,
         };
-        let fault = is_fault(&piece.token);
+        let fault = is_fault(&lexeme.token);
         tokens.push(Placed {
             place,
-            token: piece.token,
+            token: lexeme.token,
         })?;
         if fault {
             break;
         }
-        start += piece.width;
+        start += lexeme.width;
     }
     Ok(tokens)
 }

@@ -6,10 +6,10 @@ use Rattle.exo_tree.specs.PlainUnit.{program}
 use Rattle.text_show.specs.Layout.{Text}
 use Rattle.text_show.specs.Names.{unknown}
 use Rattle.text_show.specs.Words as words
-use Rattle.text_show.specs.declared.names.Names.{Names}
+use Rattle.text_show.specs.declared.names.ShownNames.{ShownNames}
 use Rattle.text_show.specs.declared.words.Words.{Words}
 
-abbrev pub names_in : Names → ℕ → Text
+abbrev pub names_in : ShownNames → ℕ → Text
 names_in n x = elim (get nat_cmp n.table x) [ None ↦ unknown x | Some t ↦ t.now ]
 
 abbrev pub words_in : Words → words.Words

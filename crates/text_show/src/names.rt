@@ -14,15 +14,15 @@ use std::collections::BTreeMap;
 
 /// The name that each id has.
 #[derive(Drop)]
-pub(crate) struct Names<'a> {
+pub(crate) struct ShownNames<'a> {
     table: BTreeMap<u32, &'a str>,
 }
 
-impl<'a> Names<'a> {
-    pub(crate) fn new(alloc: Global) -> Names<'a>
+impl<'a> ShownNames<'a> {
+    pub(crate) fn new(alloc: Global) -> ShownNames<'a>
         ensures { names_in result ≡ unknown }
     {
-        Names {
+        ShownNames {
             table: BTreeMap::new(alloc),
         }
     }
@@ -76,10 +76,10 @@ impl<'a> Names<'a> {
     }
 
     /// The names of the procedure's binders.
-    pub(crate) fn of(alloc: Global, p: &'a Proc) -> Result<Names<'a>, AllocError>
+    pub(crate) fn of(alloc: Global, p: &'a Proc) -> Result<ShownNames<'a>, AllocError>
         ensures { IfOk result (λ n. names_in n ≡ names_of (procedure p.now)) }
     {
-        let mut names = Names::new(alloc);
+        let mut names = ShownNames::new(alloc);
         names.insert_params(&p.params)?;
         names.insert_block(&p.body)?;
         Ok(names)

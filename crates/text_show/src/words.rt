@@ -5,7 +5,7 @@ ghost use Rattle.exo_tree.specs.PlainProcedure.{procedure};
 ghost use Rattle.text_show.specs.Words.{words_of};
 ghost use Rattle.text_show.specs.Seen.{words_in};
 
-use crate::names::Names;
+use crate::names::ShownNames;
 use crate::text::put_unknown;
 use exo_tree::{FieldId, Id, MemId, Proc, ProcId, Unit};
 use std::alloc::{AllocError, Global};
@@ -14,7 +14,7 @@ use std::alloc::{AllocError, Global};
 #[derive(Drop)]
 pub struct Words<'a> {
     pub(crate) unit: &'a Unit,
-    pub(crate) names: Names<'a>,
+    pub(crate) names: ShownNames<'a>,
 }
 
 impl<'a> Words<'a> {
@@ -22,7 +22,7 @@ impl<'a> Words<'a> {
     pub fn new(alloc: Global, unit: &'a Unit, p: &'a Proc) -> Result<Words<'a>, AllocError>
         ensures { IfOk result (λ w. words_in w ≡ words_of (program unit.now) (procedure p.now)) }
     {
-        let names = Names::of(alloc, p)?;
+        let names = ShownNames::of(alloc, p)?;
         Ok(Words { unit, names })
     }
 

@@ -6,7 +6,7 @@ use Rattle.exo_meaning.specs.Run.{roots_after}
 use Rattle.exo_modes.specs.Aliases.{roots_in}
 use Rattle.exo_modes.proofs.Walks.{kept_on}
 use Rattle.tree_findings.specs.declared.findings.Findings.{Findings}
-use Rattle.tree_findings.specs.declared.walk.Walk.{Walk}
+use Rattle.tree_findings.specs.declared.walk.ScopeWalk.{ScopeWalk}
 use Rattle.tree_findings.specs.Classes.{fine, both}
 use Rattle.tree_findings.specs.Findings.{scope_behind, findings_of_block, findings_of_statement}
 use Rattle.tree_findings.specs.Seen.{scope_in}
@@ -15,7 +15,7 @@ use Rattle.tree_findings.proofs.Joined.{both_fine, both_turned}
 use Rattle.tree_findings.proofs.Scopes.{taken_all}
 
 -- on the way through a block: what is found so far with what is found in the rest is all, and what was known before is kept
-pub record OnWay (kinds : ℕ → Option Kind) (memories : ℕ) (callees : ℕ → Option Callee) (first now : Walk) (found : Findings) (ss rest : List Statement) : Type 0 where
+pub record OnWay (kinds : ℕ → Option Kind) (memories : ℕ) (callees : ℕ → Option Callee) (first now : ScopeWalk) (found : Findings) (ss rest : List Statement) : Type 0 where
   pub all : both found (findings_of_block kinds memories callees (walk_scope now) (walk_roots now) (block rest)) ≡ findings_of_block kinds memories callees (walk_scope first) (walk_roots first) (block ss)
   pub entries : take (length first.entries.items) now.entries.items ≡ first.entries.items
   pub aliases : take (length first.aliases.items) now.aliases.items ≡ first.aliases.items
@@ -23,13 +23,13 @@ pub record OnWay (kinds : ℕ → Option Kind) (memories : ℕ) (callees : ℕ �
   pub more : length first.aliases.items ≤ length now.aliases.items
 
 module _ (kinds : ℕ → Option Kind) (memories : ℕ) (callees : ℕ → Option Callee) where
-  abbrev there : Walk → Statement → Findings
+  abbrev there : ScopeWalk → Statement → Findings
   there w a = findings_of_statement kinds memories callees (walk_scope w) (walk_roots w) a
 
-  pub begun : (w : Walk) (ss : List Statement) → OnWay kinds memories callees w w fine ss ss
+  pub begun : (w : ScopeWalk) (ss : List Statement) → OnWay kinds memories callees w w fine ss ss
   begun w ss = record { all = refl; entries = taken_all w.entries.items; aliases = taken_all w.aliases.items; many = omega arith; more = omega arith }
 
-  pub gone_on : (first now after : Walk) (found one : Findings) (ss left rest : List Statement) (a : Statement)
+  pub gone_on : (first now after : ScopeWalk) (found one : Findings) (ss left rest : List Statement) (a : Statement)
       → OnWay kinds memories callees first now found ss left → left ≡ a ∷ rest → one ≡ there now a → Walked now after a
       → OnWay kinds memories callees first after (both found one) ss rest
   gone_on first now after found one ss left rest a way is made walked =
@@ -46,7 +46,7 @@ module _ (kinds : ℕ → Option Kind) (memories : ℕ) (callees : ℕ → Optio
         more = l.1;
       }
 
-  pub gone : (first now : Walk) (found : Findings) (ss left : List Statement) → OnWay kinds memories callees first now found ss left → left ≡ []
+  pub gone : (first now : ScopeWalk) (found : Findings) (ss left : List Statement) → OnWay kinds memories callees first now found ss left → left ≡ []
       → found ≡ findings_of_block kinds memories callees (walk_scope first) (walk_roots first) (block ss)
   gone first now found ss left way none =
       sym (both_fine found)
@@ -54,7 +54,7 @@ module _ (kinds : ℕ → Option Kind) (memories : ℕ) (callees : ℕ → Optio
       ∙ way.all
 
 -- nothing is bound
-pub stays : (v w : Walk) (a : Statement) → IsBack v w → scope_behind a (walk_scope v) ≡ walk_scope v → roots_after a (walk_roots v) ≡ walk_roots v → Walked v w a
+pub stays : (v w : ScopeWalk) (a : Statement) → IsBack v w → scope_behind a (walk_scope v) ≡ walk_scope v → roots_after a (walk_roots v) ≡ walk_roots v → Walked v w a
 stays v w a back s r = record {
   scope = ap (λ es. scope_in es) back.entries ∙ sym s;
   roots = ap (λ as'. roots_in as') back.aliases ∙ sym r;
@@ -62,5 +62,5 @@ stays v w a back s r = record {
   aliases = ap (take (length v.aliases.items)) back.aliases ∙ taken_all v.aliases.items;
 }
 
-pub unmoved : (w : Walk) → IsBack w w
+pub unmoved : (w : ScopeWalk) → IsBack w w
 unmoved w = record { entries = refl; aliases = refl }

@@ -12,13 +12,13 @@ ghost use Rattle.exo_modes.specs.Reads.{reads};
 
 use crate::expression::{in_condition, in_control, in_window, spans};
 use crate::findings::Findings;
-use crate::name::{Names, use_of};
+use crate::name::{ScopeNames, use_of};
 use crate::size::deepest_coord;
 use exo_modes::{Reads, WITH_BOTH, WITH_STRIDES, has_cell, has_rank, is_dense};
 use exo_tree::{Arg, Cell, Coord, Id, Kind, Param, ParamKind};
 
 /// What is found in an argument for a control value.
-fn in_value(names: &Names, may: Reads, kind: Kind, a: &Arg) -> Findings
+fn in_value(names: &ScopeNames, may: Reads, kind: Kind, a: &Arg) -> Findings
     ensures { result ≡ found.findings_of_kind (kinds_seen names.now) (reads may)
         (scope_seen names.now) (control_kind kind) (argument a.now) }
 {
@@ -30,7 +30,7 @@ fn in_value(names: &Names, may: Reads, kind: Kind, a: &Arg) -> Findings
 }
 
 /// What is found in a window of a buffer of that cell type.
-fn in_part(names: &Names, cell: Cell, x: Id, coords: &[Coord]) -> Findings
+fn in_part(names: &ScopeNames, cell: Cell, x: Id, coords: &[Coord]) -> Findings
     ensures { result ≡ classes.both
         (classes.use_of (units.has_cell (cell_type cell))
         (units.sort_in (scope_seen names.now) x.0))
@@ -51,7 +51,7 @@ fn is_cell(rank: usize, coords: &[Coord]) -> bool
 }
 
 /// What is found in an argument for a tensor.
-fn in_tensor(names: &Names, cell: Cell, rank: usize, a: &Arg) -> Findings
+fn in_tensor(names: &ScopeNames, cell: Cell, rank: usize, a: &Arg) -> Findings
     ensures { result ≡ found.findings_of_tensor (kinds_seen names.now) (scope_seen names.now)
         (cell_type cell) rank (argument a.now) }
 {
@@ -75,7 +75,7 @@ fn in_tensor(names: &Names, cell: Cell, rank: usize, a: &Arg) -> Findings
 }
 
 /// What is found in an argument for a window.
-fn in_strided(names: &Names, cell: Cell, rank: usize, a: &Arg) -> Findings
+fn in_strided(names: &ScopeNames, cell: Cell, rank: usize, a: &Arg) -> Findings
     ensures { result ≡ found.findings_of_strided (kinds_seen names.now) (scope_seen names.now)
         (cell_type cell) rank (argument a.now) }
 {
@@ -93,7 +93,7 @@ fn in_strided(names: &Names, cell: Cell, rank: usize, a: &Arg) -> Findings
 }
 
 /// What is found in an argument for a parameter.
-fn in_argument(names: &Names, kind: &ParamKind, a: &Arg) -> Findings
+fn in_argument(names: &ScopeNames, kind: &ParamKind, a: &Arg) -> Findings
     ensures { result ≡ found.findings_of_argument (kinds_seen names.now) (scope_seen names.now)
         (parameter_kind kind.now) (argument a.now) }
 {
@@ -105,7 +105,7 @@ fn in_argument(names: &Names, kind: &ParamKind, a: &Arg) -> Findings
 }
 
 /// What is found in the arguments for parameters.
-pub(crate) fn in_arguments(names: &Names, params: &[Param], args: &[Arg]) -> Findings
+pub(crate) fn in_arguments(names: &ScopeNames, params: &[Param], args: &[Arg]) -> Findings
     ensures { result ≡ found.findings_of_arguments (kinds_seen names.now) (scope_seen names.now)
         (map parameter params.now) (map argument args.now) }
 {
@@ -119,7 +119,7 @@ pub(crate) fn in_arguments(names: &Names, params: &[Param], args: &[Arg]) -> Fin
 }
 
 /// What is found in a write of a field of that kind.
-pub(crate) fn in_write(names: &Names, kind: Option<Kind>, a: &Arg) -> Findings
+pub(crate) fn in_write(names: &ScopeNames, kind: Option<Kind>, a: &Arg) -> Findings
     ensures { result ≡ found.findings_of_write (kinds_seen names.now) (scope_seen names.now)
         (option_map control_kind kind) (argument a.now) }
 {

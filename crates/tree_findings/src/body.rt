@@ -11,18 +11,21 @@ ghost use Rattle.tree_findings.specs.Findings as found;
 ghost use Rattle.tree_findings.specs.Walked.{walk_scope, IsGround, ground_kinds, ground_memories};
 ghost use Rattle.tree_findings.specs.Walked.{ground_callees};
 
-use crate::call::Ground;
+use crate::call::Surroundings;
 use crate::count::{are_below, ids_of, is_flat};
 use crate::findings::Findings;
 use crate::statement::{is_filled, is_short, walk_block};
-use crate::walk::Walk;
+use crate::walk::ScopeWalk;
 use exo_modes::{ModeTable, param_sort};
 use exo_tree::{Block, Param, Params, Proc, Unit, count_statements};
 use std::alloc::{AllocError, Global};
 use tree_edits::made::are_distinct;
 
 /// Puts parameters into scope.
-pub(crate) fn bind_params<'u>(walk: &mut Walk<'u>, params: &'u [Param]) -> Result<(), AllocError>
+pub(crate) fn bind_params<'u>(
+    walk: &mut ScopeWalk<'u>,
+    params: &'u [Param],
+) -> Result<(), AllocError>
     ensures scope { OnOk result
         (walk_scope walk.new ≡ units.scope_of (walk_scope walk.old) (map parameter params.now)) }
     ensures aliases { OnOk result (walk.new.aliases.items ≡ walk.old.aliases.items) }
@@ -43,7 +46,7 @@ fn is_small(b: &Block) -> bool
 /// What is found in the statements of a body under these parameters.
 fn findings_inside<'u>(
     alloc: Global,
-    ground: &Ground<'u>,
+    ground: &Surroundings<'u>,
     params: &'u Params,
     body: &'u Block,
 ) -> Result<Findings, AllocError>
@@ -52,7 +55,7 @@ fn findings_inside<'u>(
         (λ f. f ≡ found.findings_of_block (ground_kinds ground.now) (ground_memories ground.now)
         (ground_callees ground.now) (units.scope_of [] params.now) (λ x. x) (block body.now)) }
 {
-    let mut walk = Walk::new(alloc);
+    let mut walk = ScopeWalk::new(alloc);
     bind_params(&mut walk, params.as_slice())?;
     let inside = walk_block(ground, &mut walk, body)?;
     Ok(inside)
@@ -71,7 +74,7 @@ pub fn findings_of_body<'u>(
     ensures { IfOk result
         (λ f. f ≡ found.findings_of_body (program unit.now) params.now (block body.now)) }
 {
-    let inside = findings_inside(alloc, &Ground { unit, modes }, params, body)?;
+    let inside = findings_inside(alloc, &Surroundings { unit, modes }, params, body)?;
     let ids = ids_of(alloc, params.as_slice(), body)?;
     let distinct = Findings::rule(are_distinct(ids.as_slice()));
     let small = Findings::limit(is_short(body) && is_small(body));

@@ -15,18 +15,18 @@ ghost use Rattle.tree_findings.specs.Walked.{IsGround, ground_callees, ground_ki
 
 use crate::argument::in_arguments;
 use crate::findings::Findings;
-use crate::name::Names;
+use crate::name::ScopeNames;
 use exo_modes::{Alias, ModeTable, root, same_buffer};
 use exo_tree::{Arg, Args, Id, Param, ParamKind, Params, ProcId, Unit};
 
 /// What stands round a body: its unit, with the modes of its procedures.
 #[derive(Clone, Copy)]
-pub(crate) struct Ground<'u> {
+pub(crate) struct Surroundings<'u> {
     pub(crate) unit: &'u Unit,
     pub(crate) modes: &'u ModeTable,
 }
 
-impl<'u> Ground<'u> {
+impl<'u> Surroundings<'u> {
     /// Whether a procedure writes or reduces a buffer.
     fn has_write(&self, k: ProcId, x: Id) -> bool
         ensures { result ≡ writes_seen self.now k.0 x.0 }
@@ -77,7 +77,7 @@ fn is_whole(p: &Param) -> bool
 /// Whether a later argument is of the same buffer as that of a parameter, the callee writes one of
 /// the two parameters, and one of the two is a tensor with dimensions.
 fn is_shared(
-    ground: &Ground,
+    ground: &Surroundings,
     aliases: &[Alias],
     callee: ProcId,
     p: &Param,
@@ -103,7 +103,7 @@ fn is_shared(
 
 /// Whether no later argument is shared with one before it.
 fn share_nothing_written(
-    ground: &Ground,
+    ground: &Surroundings,
     aliases: &[Alias],
     callee: ProcId,
     params: &[Param],
@@ -139,14 +139,14 @@ pub fn gives_apart(
         (writing (modes_at (table_says modes.now) callee.0)) (roots_in aliases.now) params.now
         args.now }
 {
-    let ground = Ground { unit, modes };
+    let ground = Surroundings { unit, modes };
     share_nothing_written(&ground, aliases, callee, params.as_slice(), args.as_slice())
 }
 
 /// What is found in a call of a procedure with these parameters.
 fn in_known_call(
-    ground: &Ground,
-    names: &Names,
+    ground: &Surroundings,
+    names: &ScopeNames,
     aliases: &[Alias],
     callee: ProcId,
     params: &Params,
@@ -166,8 +166,8 @@ fn in_known_call(
 
 /// What is found in a call.
 pub(crate) fn in_call(
-    ground: &Ground,
-    names: &Names,
+    ground: &Surroundings,
+    names: &ScopeNames,
     aliases: &[Alias],
     callee: ProcId,
     args: &Args,

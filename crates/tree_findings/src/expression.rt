@@ -10,14 +10,14 @@ ghost use Rattle.tree_findings.specs.Seen.{kinds_seen, scope_seen};
 ghost use Rattle.exo_modes.specs.Reads.{reads};
 
 use crate::findings::Findings;
-use crate::name::{Names, divisor, is_literal, use_of};
+use crate::name::{ScopeNames, divisor, is_literal, use_of};
 use crate::size::{condition_size, control_size, datum_size};
 use affine_forms::is_of_literals;
 use exo_modes::{PLAINLY, Reads, has_dimension, has_rank, is_flag, is_number};
 use exo_tree::{Cond, Coord, Ctrl, DataExpr, FieldId, Id};
 
 /// What is found in a field that is read as a number.
-fn in_number_field(names: &Names, may: Reads, f: FieldId) -> Findings
+fn in_number_field(names: &ScopeNames, may: Reads, f: FieldId) -> Findings
     ensures { result ≡ rule (may.fields && units.is_number_field (kinds_seen names.now) (kinds_seen names.now f.0)) }
 {
     let fits = names.is_number_field(f);
@@ -25,7 +25,7 @@ fn in_number_field(names: &Names, may: Reads, f: FieldId) -> Findings
 }
 
 /// What is found in a field that is read as a bool.
-fn in_flag_field(names: &Names, may: Reads, f: FieldId) -> Findings
+fn in_flag_field(names: &ScopeNames, may: Reads, f: FieldId) -> Findings
     ensures { result ≡ rule (may.fields && units.is_flag_field (kinds_seen names.now) (kinds_seen names.now f.0)) }
 {
     let fits = names.is_flag_field(f);
@@ -42,7 +42,7 @@ fn in_product(sides: Findings, a: &Ctrl, b: &Ctrl) -> Findings
 }
 
 /// What is found in a control expression, but for its size.
-fn inside_control(names: &Names, may: Reads, e: &Ctrl) -> Findings
+fn inside_control(names: &ScopeNames, may: Reads, e: &Ctrl) -> Findings
     ensures { result ≡ found.found_in_control (kinds_seen names.now) (reads may) (scope_seen names.now) (control e.now) }
 {
     match e {
@@ -69,14 +69,14 @@ fn inside_control(names: &Names, may: Reads, e: &Ctrl) -> Findings
 }
 
 /// What is found in a control expression.
-pub(crate) fn in_control(names: &Names, may: Reads, e: &Ctrl) -> Findings
+pub(crate) fn in_control(names: &ScopeNames, may: Reads, e: &Ctrl) -> Findings
     ensures { result ≡ found.findings_of_control (kinds_seen names.now) (reads may) (scope_seen names.now) (control e.now) }
 {
     inside_control(names, may, e).and(Findings::limit(control_size(e).is_within(256)))
 }
 
 /// What is found in indices or dimensions.
-pub(crate) fn in_controls(names: &Names, es: &[Ctrl]) -> Findings
+pub(crate) fn in_controls(names: &ScopeNames, es: &[Ctrl]) -> Findings
     ensures { result ≡ found.findings_of_controls (kinds_seen names.now) plainly (scope_seen names.now) (map control es.now) }
 {
     let [e, rest @ ..] = es else {
@@ -86,7 +86,7 @@ pub(crate) fn in_controls(names: &Names, es: &[Ctrl]) -> Findings
 }
 
 /// What is found in a condition, but for its size.
-fn inside_condition(names: &Names, may: Reads, c: &Cond) -> Findings
+fn inside_condition(names: &ScopeNames, may: Reads, c: &Cond) -> Findings
     ensures { result ≡ found.found_in_condition (kinds_seen names.now) (reads may) (scope_seen names.now) (condition c.now) }
 {
     match c {
@@ -106,14 +106,14 @@ fn inside_condition(names: &Names, may: Reads, c: &Cond) -> Findings
 }
 
 /// What is found in a condition.
-pub(crate) fn in_condition(names: &Names, may: Reads, c: &Cond) -> Findings
+pub(crate) fn in_condition(names: &ScopeNames, may: Reads, c: &Cond) -> Findings
     ensures { result ≡ found.findings_of_condition (kinds_seen names.now) (reads may) (scope_seen names.now) (condition c.now) }
 {
     inside_condition(names, may, c).and(Findings::limit(condition_size(c).is_within(256)))
 }
 
 /// What is found in an access.
-pub(crate) fn in_access(names: &Names, x: Id, at: &[Ctrl]) -> Findings
+pub(crate) fn in_access(names: &ScopeNames, x: Id, at: &[Ctrl]) -> Findings
     ensures { result ≡ found.findings_of_access (kinds_seen names.now) (scope_seen names.now) x.0 (map control at.now) }
 {
     let sort = names.sort(x);
@@ -121,7 +121,7 @@ pub(crate) fn in_access(names: &Names, x: Id, at: &[Ctrl]) -> Findings
 }
 
 /// What is found in a data expression, but for its size.
-fn inside_datum(names: &Names, e: &DataExpr) -> Findings
+fn inside_datum(names: &ScopeNames, e: &DataExpr) -> Findings
     ensures { result ≡ found.found_in_datum (kinds_seen names.now) (scope_seen names.now) (datum e.now) }
 {
     match e {
@@ -140,14 +140,14 @@ fn inside_datum(names: &Names, e: &DataExpr) -> Findings
 }
 
 /// What is found in a right side.
-pub(crate) fn in_datum(names: &Names, e: &DataExpr) -> Findings
+pub(crate) fn in_datum(names: &ScopeNames, e: &DataExpr) -> Findings
     ensures { result ≡ found.findings_of_datum (kinds_seen names.now) (scope_seen names.now) (datum e.now) }
 {
     inside_datum(names, e).and(Findings::limit(datum_size(e).is_within(1024)))
 }
 
 /// What is found in a coordinate.
-fn in_coord(names: &Names, c: &Coord) -> Findings
+fn in_coord(names: &ScopeNames, c: &Coord) -> Findings
     ensures { result ≡ found.findings_of_coord (kinds_seen names.now) (scope_seen names.now) (coordinate c.now) }
 {
     match c {
@@ -157,7 +157,7 @@ fn in_coord(names: &Names, c: &Coord) -> Findings
 }
 
 /// What is found in coordinates.
-fn in_coords(names: &Names, coords: &[Coord]) -> Findings
+fn in_coords(names: &ScopeNames, coords: &[Coord]) -> Findings
     ensures { result ≡ all_of (found.findings_of_coord (kinds_seen names.now) (scope_seen names.now)) (map coordinate coords.now) }
 {
     let [c, rest @ ..] = coords else {
@@ -167,7 +167,7 @@ fn in_coords(names: &Names, coords: &[Coord]) -> Findings
 }
 
 /// What is found in a window.
-pub(crate) fn in_window(names: &Names, x: Id, coords: &[Coord]) -> Findings
+pub(crate) fn in_window(names: &ScopeNames, x: Id, coords: &[Coord]) -> Findings
     ensures { result ≡ found.findings_of_window (kinds_seen names.now) (scope_seen names.now) x.0 (map coordinate coords.now) }
 {
     let sort = names.sort(x);

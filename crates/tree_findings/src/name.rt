@@ -8,18 +8,18 @@ ghost use Rattle.tree_findings.specs.Findings.{found_in_binder, found_in_divisor
 ghost use Rattle.tree_findings.specs.Seen.{kinds_seen, scope_seen};
 
 use crate::findings::Findings;
-use crate::scope::{Entry, is_new, sort_in};
+use crate::scope::{ScopeEntry, is_new, sort_in};
 use exo_modes::Sort;
 use exo_tree::{Binder, FieldId, Fields, Id, Kind};
 
 /// What names stand for at a place.
 #[derive(Clone, Copy)]
-pub(crate) struct Names<'n, 'u> {
+pub(crate) struct ScopeNames<'n, 'u> {
     pub(crate) fields: &'n Fields,
-    pub(crate) entries: &'n [Entry<'u>],
+    pub(crate) entries: &'n [ScopeEntry<'u>],
 }
 
-impl<'n, 'u> Names<'n, 'u> {
+impl<'n, 'u> ScopeNames<'n, 'u> {
     /// The sort of what a name stands for; None exactly where it is not in scope.
     pub(crate) fn sort(&self, x: Id) -> Option<Sort>
         ensures { sort_seen result ≡ units.sort_in (scope_seen self.now) x.0 }

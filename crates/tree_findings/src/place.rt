@@ -18,16 +18,16 @@ ghost use Rattle.tree_findings.specs.Walked.{walk_scope, place_scope};
 use crate::body::bind_params;
 use crate::expression::{in_condition, spans};
 use crate::findings::Findings;
-use crate::name::Names;
-use crate::scope::{Entry, sort_in};
-use crate::walk::Walk;
+use crate::name::ScopeNames;
+use crate::scope::{ScopeEntry, sort_in};
+use crate::walk::ScopeWalk;
 use exo_modes::{Sort, WITH_BOTH};
 use exo_tree::{Block, Branch, Cell, Cond, Coords, Id, Kind, Path, Proc, Step, Stmt, Unit};
 use std::alloc::{AllocError, Global};
 use tree_edits::alone_at;
 
 /// What a view of those coordinates stands for.
-fn view_of(entries: &[Entry], x: Id, coords: &Coords) -> Sort
+fn view_of(entries: &[ScopeEntry], x: Id, coords: &Coords) -> Sort
     ensures { sort_meant result
         ≡ units.view_sort (units.sort_in (scope_in entries.now) x.0) (units.spans coords.now) }
 {
@@ -40,7 +40,7 @@ fn view_of(entries: &[Entry], x: Id, coords: &Coords) -> Sort
 }
 
 /// Goes over a statement of a block.
-fn pass<'u>(walk: &mut Walk<'u>, s: &'u Stmt) -> Result<(), AllocError>
+fn pass<'u>(walk: &mut ScopeWalk<'u>, s: &'u Stmt) -> Result<(), AllocError>
     ensures { OnOk result (walk_scope walk.new
         ≡ units.scope_after (statement s.now) (walk_scope walk.old)) }
 {
@@ -56,7 +56,7 @@ fn pass<'u>(walk: &mut Walk<'u>, s: &'u Stmt) -> Result<(), AllocError>
 
 /// Goes over the first statements of a block.
 #[tactic(auto, using(crate::proofs::Places::one_behind))]
-fn pass_all<'u>(walk: &mut Walk<'u>, b: &'u Block, to: usize) -> Result<(), AllocError>
+fn pass_all<'u>(walk: &mut ScopeWalk<'u>, b: &'u Block, to: usize) -> Result<(), AllocError>
     requires { to ≤ length b.now }
     ensures { OnOk result (walk_scope walk.new ≡ scope_behind_all (take to b.now) (walk_scope walk.old)) }
 {
@@ -69,7 +69,7 @@ fn pass_all<'u>(walk: &mut Walk<'u>, b: &'u Block, to: usize) -> Result<(), Allo
 /// Goes to the statements at a path of a block, however many they are.
 #[cycle(place)]
 #[tactic(auto, using(crate::proofs::Places::beyond_all, crate::proofs::Places::at_statement, crate::proofs::Places::below_statement))]
-fn go<'u>(walk: &mut Walk<'u>, b: &'u Block, path: &[Step]) -> Result<(), AllocError>
+fn go<'u>(walk: &mut ScopeWalk<'u>, b: &'u Block, path: &[Step]) -> Result<(), AllocError>
     ensures { (count : ℕ) →
         OnOk result (IsScopeAt (opened_in count (map step_taken path.now) (block b.now))
         (walk_scope walk.old) (walk_scope walk.new)) }
@@ -95,7 +95,7 @@ fn go<'u>(walk: &mut Walk<'u>, b: &'u Block, path: &[Step]) -> Result<(), AllocE
 #[cycle(place)]
 #[tactic(auto, using(crate::proofs::Places::in_loop, crate::proofs::Places::in_then, crate::proofs::Places::in_else))]
 fn enter<'u>(
-    walk: &mut Walk<'u>,
+    walk: &mut ScopeWalk<'u>,
     s: &'u Stmt,
     branch: Branch,
     path: &[Step],
@@ -128,11 +128,11 @@ fn scope_there<'u>(
     p: &'u Proc,
     path: &Path,
     count: u32,
-) -> Result<Walk<'u>, AllocError>
+) -> Result<ScopeWalk<'u>, AllocError>
     ensures { IfOk result (λ w. walk_scope w
         ≡ sorted.scope_there (procedure p.now) (opened count path.now (procedure p.now).body)) }
 {
-    let mut walk = Walk::new(alloc);
+    let mut walk = ScopeWalk::new(alloc);
     bind_params(&mut walk, p.params.as_slice())?;
     match alone_at(&p.body, path, count) {
         None => Ok(walk),
@@ -146,7 +146,7 @@ fn scope_there<'u>(
 /// The names in scope at a place of a procedure.
 #[derive(Drop)]
 pub struct PlaceScope<'u> {
-    walk: Walk<'u>,
+    walk: ScopeWalk<'u>,
 }
 
 impl<'u> PlaceScope<'u> {
@@ -191,7 +191,7 @@ pub fn findings_of_condition_at<'u>(
         (condition c.now)) }
 {
     let walk = scope_there(alloc, p, path, 1)?;
-    let names = Names {
+    let names = ScopeNames {
         fields: &unit.fields,
         entries: walk.entries.as_slice(),
     };

@@ -10,13 +10,13 @@ use exo_tree::{Binder, Id};
 
 /// A name in scope.
 #[derive(Clone, Copy)]
-pub(crate) struct Entry<'u> {
+pub(crate) struct ScopeEntry<'u> {
     pub(crate) binder: &'u Binder,
     pub(crate) sort: Sort,
 }
 
 /// The sort of what a name stands for; None exactly where it is not in scope.
-pub(crate) fn sort_in(entries: &[Entry], x: Id) -> Option<Sort>
+pub(crate) fn sort_in(entries: &[ScopeEntry], x: Id) -> Option<Sort>
     ensures { sort_seen result ≡ units.sort_in (scope_in entries.now) x.0 }
 {
     let mut found = None;
@@ -29,14 +29,14 @@ pub(crate) fn sort_in(entries: &[Entry], x: Id) -> Option<Sort>
 }
 
 /// Whether a binder has the id or the name of an entry.
-fn is_clash(x: &Binder, entry: &Entry) -> bool
+fn is_clash(x: &Binder, entry: &ScopeEntry) -> bool
     ensures { result ≡ clash (binding x.now) (named entry.now) }
 {
     x.id.0 == entry.binder.id.0 || x.name.as_str() == entry.binder.name.as_str()
 }
 
 /// Whether neither the id nor the name of a binder is in scope.
-pub(crate) fn is_new(entries: &[Entry], x: &Binder) -> bool
+pub(crate) fn is_new(entries: &[ScopeEntry], x: &Binder) -> bool
     ensures { result ≡ units.is_new (scope_in entries.now) (binding x.now) }
 {
     for entry in entries {

@@ -16,12 +16,12 @@ ghost use Rattle.tree_findings.specs.Walked.{ground_callees};
 ghost use Rattle.tree_findings.specs.Walked.{walk_scope, walk_roots, Walked, IsBack};
 
 use crate::argument::in_write;
-use crate::call::{Ground, in_call};
+use crate::call::{Surroundings, in_call};
 use crate::expression::{
     in_access, in_condition, in_control, in_controls, in_datum, in_window, spans,
 };
 use crate::findings::Findings;
-use crate::walk::{Walk, walk_alloc, walk_view};
+use crate::walk::{ScopeWalk, walk_alloc, walk_view};
 use exo_modes::{PLAINLY, Sort, WITH_FIELDS};
 use exo_tree::{
     Arg, Args, Binder, Block, Cell, Cond, Coords, Ctrl, DataExpr, FieldId, Id, Indices, Kind,
@@ -44,7 +44,7 @@ pub(crate) fn is_short(b: &Block) -> bool
 }
 
 /// What is found in the header of a branch.
-fn in_test<'u>(ground: &Ground<'u>, walk: &Walk<'u>, c: &Cond, a: &Block) -> Findings
+fn in_test<'u>(ground: &Surroundings<'u>, walk: &ScopeWalk<'u>, c: &Cond, a: &Block) -> Findings
     ensures { result ≡ both
         (found.findings_of_condition (ground_kinds ground.now) with_fields (walk_scope walk.now)
         (condition c.now))
@@ -55,7 +55,7 @@ fn in_test<'u>(ground: &Ground<'u>, walk: &Walk<'u>, c: &Cond, a: &Block) -> Fin
 }
 
 /// What is found in the bounds of a loop.
-fn in_bounds<'u>(ground: &Ground<'u>, walk: &Walk<'u>, lo: &Ctrl, hi: &Ctrl) -> Findings
+fn in_bounds<'u>(ground: &Surroundings<'u>, walk: &ScopeWalk<'u>, lo: &Ctrl, hi: &Ctrl) -> Findings
     ensures { result ≡ both
         (found.findings_of_control (ground_kinds ground.now) plainly (walk_scope walk.now)
         (control lo.now))
@@ -67,7 +67,12 @@ fn in_bounds<'u>(ground: &Ground<'u>, walk: &Walk<'u>, lo: &Ctrl, hi: &Ctrl) -> 
 }
 
 /// What is found in the variable of a loop and at its body.
-fn in_variable<'u>(ground: &Ground<'u>, walk: &Walk<'u>, i: &Binder, b: &Block) -> Findings
+fn in_variable<'u>(
+    ground: &Surroundings<'u>,
+    walk: &ScopeWalk<'u>,
+    i: &Binder,
+    b: &Block,
+) -> Findings
     ensures { result ≡ both (found.found_in_binder (walk_scope walk.now) (binding i.now))
         (rule (not (units.is_empty (block b.now)))) }
 {
@@ -77,8 +82,8 @@ fn in_variable<'u>(ground: &Ground<'u>, walk: &Walk<'u>, i: &Binder, b: &Block) 
 
 /// What is found in an allocation.
 fn in_alloc<'u>(
-    ground: &Ground<'u>,
-    walk: &Walk<'u>,
+    ground: &Surroundings<'u>,
+    walk: &ScopeWalk<'u>,
     x: &Binder,
     dims: &Indices,
     memory: MemId,
@@ -102,7 +107,13 @@ fn has_span(coords: &Coords) -> bool
 }
 
 /// What is found in a view.
-fn in_view<'u>(ground: &Ground<'u>, walk: &Walk<'u>, w: &Binder, x: Id, coords: &Coords) -> Findings
+fn in_view<'u>(
+    ground: &Surroundings<'u>,
+    walk: &ScopeWalk<'u>,
+    w: &Binder,
+    x: Id,
+    coords: &Coords,
+) -> Findings
     ensures { result ≡ both (found.found_in_binder (walk_scope walk.now) (binding w.now))
         (both
         (found.findings_of_window (ground_kinds ground.now) (walk_scope walk.now) x.0 coords.now)
@@ -115,7 +126,13 @@ fn in_view<'u>(ground: &Ground<'u>, walk: &Walk<'u>, w: &Binder, x: Id, coords: 
 }
 
 /// What is found in an assignment or a reduction.
-fn in_store<'u>(ground: &Ground<'u>, walk: &Walk<'u>, x: Id, at: &Indices, e: &DataExpr) -> Findings
+fn in_store<'u>(
+    ground: &Surroundings<'u>,
+    walk: &ScopeWalk<'u>,
+    x: Id,
+    at: &Indices,
+    e: &DataExpr,
+) -> Findings
     ensures { result ≡ both
         (found.findings_of_access (ground_kinds ground.now) (walk_scope walk.now) x.0 at.now)
         (found.findings_of_datum (ground_kinds ground.now) (walk_scope walk.now) (datum e.now)) }
@@ -125,7 +142,7 @@ fn in_store<'u>(ground: &Ground<'u>, walk: &Walk<'u>, x: Id, at: &Indices, e: &D
 }
 
 /// What is found in a write of a configuration field.
-fn in_config<'u>(ground: &Ground<'u>, walk: &Walk<'u>, f: FieldId, a: &Arg) -> Findings
+fn in_config<'u>(ground: &Surroundings<'u>, walk: &ScopeWalk<'u>, f: FieldId, a: &Arg) -> Findings
     ensures { result ≡ found.findings_of_write (ground_kinds ground.now) (walk_scope walk.now)
         (ground_kinds ground.now f.0) (argument a.now) }
 {
@@ -134,7 +151,12 @@ fn in_config<'u>(ground: &Ground<'u>, walk: &Walk<'u>, f: FieldId, a: &Arg) -> F
 }
 
 /// What is found in a call.
-fn in_call_there<'u>(ground: &Ground<'u>, walk: &Walk<'u>, k: ProcId, args: &Args) -> Findings
+fn in_call_there<'u>(
+    ground: &Surroundings<'u>,
+    walk: &ScopeWalk<'u>,
+    k: ProcId,
+    args: &Args,
+) -> Findings
     requires { IsGround ground.now }
     ensures { result ≡ found.findings_of_call (ground_kinds ground.now) (walk_scope walk.now)
         (walk_roots walk.now) (ground_callees ground.now k.0) args.now }
@@ -145,8 +167,8 @@ fn in_call_there<'u>(ground: &Ground<'u>, walk: &Walk<'u>, k: ProcId, args: &Arg
 
 /// What is found in an allocation, over which the walk goes.
 fn over_alloc<'u>(
-    ground: &Ground<'u>,
-    walk: &mut Walk<'u>,
+    ground: &Surroundings<'u>,
+    walk: &mut ScopeWalk<'u>,
     x: &'u Binder,
     cell: Cell,
     dims: &Indices,
@@ -165,8 +187,8 @@ fn over_alloc<'u>(
 
 /// What is found in a view, over which the walk goes.
 fn over_view<'u>(
-    ground: &Ground<'u>,
-    walk: &mut Walk<'u>,
+    ground: &Surroundings<'u>,
+    walk: &mut ScopeWalk<'u>,
     w: &'u Binder,
     x: Id,
     coords: &Coords,
@@ -194,8 +216,8 @@ fn joined(one: Findings, two: Findings, three: Findings) -> Findings
 /// What is found in a statement, over which the walk goes.
 #[cycle(walk)]
 fn walk_statement<'u>(
-    ground: &Ground<'u>,
-    walk: &mut Walk<'u>,
+    ground: &Surroundings<'u>,
+    walk: &mut ScopeWalk<'u>,
     s: &'u Stmt,
 ) -> Result<Findings, AllocError>
     requires { IsGround ground.now }
@@ -219,8 +241,8 @@ fn walk_statement<'u>(
 /// What is found in a branch.
 #[cycle(walk)]
 fn walk_if<'u>(
-    ground: &Ground<'u>,
-    walk: &mut Walk<'u>,
+    ground: &Surroundings<'u>,
+    walk: &mut ScopeWalk<'u>,
     c: &Cond,
     a: &'u Block,
     b: &'u Block,
@@ -243,8 +265,8 @@ fn walk_if<'u>(
 /// What is found in a loop.
 #[cycle(walk)]
 fn walk_loop<'u>(
-    ground: &Ground<'u>,
-    walk: &mut Walk<'u>,
+    ground: &Surroundings<'u>,
+    walk: &mut ScopeWalk<'u>,
     i: &'u Binder,
     lo: &Ctrl,
     hi: &Ctrl,
@@ -271,8 +293,8 @@ fn walk_loop<'u>(
 /// What is found in a block inside another.
 #[cycle(walk)]
 fn walk_branch<'u>(
-    ground: &Ground<'u>,
-    walk: &mut Walk<'u>,
+    ground: &Surroundings<'u>,
+    walk: &mut ScopeWalk<'u>,
     b: &'u Block,
 ) -> Result<Findings, AllocError>
     requires { IsGround ground.now }
@@ -289,8 +311,8 @@ fn walk_branch<'u>(
 /// What is found in a block. Its names end with it.
 #[cycle(walk)]
 pub(crate) fn walk_block<'u>(
-    ground: &Ground<'u>,
-    walk: &mut Walk<'u>,
+    ground: &Surroundings<'u>,
+    walk: &mut ScopeWalk<'u>,
     b: &'u Block,
 ) -> Result<Findings, AllocError>
     requires { IsGround ground.now }

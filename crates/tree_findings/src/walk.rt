@@ -7,10 +7,10 @@ ghost use Rattle.exo_meaning.specs.Units.{with_name};
 ghost use Rattle.exo_modes.specs.Sorts.{sort_meant};
 ghost use Rattle.tree_findings.specs.Walked.{walk_scope, Walked};
 
-use crate::call::Ground;
+use crate::call::Surroundings;
 use crate::expression::spans;
-use crate::name::Names;
-use crate::scope::{Entry, sort_in};
+use crate::name::ScopeNames;
+use crate::scope::{ScopeEntry, sort_in};
 use exo_modes::{Alias, Sort, root, set_root};
 use exo_tree::{Binder, Cell, Coords, Id, Indices, MemId};
 use std::alloc::{AllocError, Global};
@@ -18,18 +18,18 @@ use std::alloc::{AllocError, Global};
 /// What a walk through a body knows: the names in scope, the innermost last, and the buffers of
 /// views.
 #[derive(Drop)]
-pub(crate) struct Walk<'u> {
-    pub(crate) entries: Vec<Entry<'u>>,
+pub(crate) struct ScopeWalk<'u> {
+    pub(crate) entries: Vec<ScopeEntry<'u>>,
     pub(crate) aliases: Vec<Alias>,
 }
 
-impl<'u> Walk<'u> {
+impl<'u> ScopeWalk<'u> {
     /// A walk before its first statement.
-    pub(crate) fn new(alloc: Global) -> Walk<'u>
+    pub(crate) fn new(alloc: Global) -> ScopeWalk<'u>
         ensures entries { result.entries.items ≡ [] }
         ensures aliases { result.aliases.items ≡ [] }
     {
-        Walk {
+        ScopeWalk {
             entries: Vec::new(alloc),
             aliases: Vec::new(alloc),
         }
@@ -43,16 +43,16 @@ impl<'u> Walk<'u> {
             ≡ with_name (walk_scope self.old) (binding binder.now) (sort_meant sort)) }
         ensures aliases { OnOk result (self.new.aliases.items ≡ self.old.aliases.items) }
     {
-        self.entries.push(Entry { binder, sort })?;
+        self.entries.push(ScopeEntry { binder, sort })?;
         Ok(())
     }
 
     /// What names stand for where the walk is.
-    pub(crate) fn names<'n>(&'n self, ground: &Ground<'u>) -> Names<'n, 'u>
+    pub(crate) fn names<'n>(&'n self, ground: &Surroundings<'u>) -> ScopeNames<'n, 'u>
         ensures fields { result.fields.now ≡ ground.now.unit.now.fields }
         ensures entries { result.entries.now ≡ self.now.entries.items }
     {
-        Names {
+        ScopeNames {
             fields: &ground.unit.fields,
             entries: self.entries.as_slice(),
         }
@@ -71,7 +71,7 @@ fn view_sort(sort: Sort, rank: usize) -> Sort
 
 /// Goes over an allocation.
 pub(crate) fn walk_alloc<'u>(
-    walk: &mut Walk<'u>,
+    walk: &mut ScopeWalk<'u>,
     x: &'u Binder,
     cell: Cell,
     dims: &Indices,
@@ -86,7 +86,7 @@ pub(crate) fn walk_alloc<'u>(
 
 /// Goes over a view.
 pub(crate) fn walk_view<'u>(
-    walk: &mut Walk<'u>,
+    walk: &mut ScopeWalk<'u>,
     w: &'u Binder,
     x: Id,
     coords: &Coords,

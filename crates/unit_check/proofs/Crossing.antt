@@ -22,7 +22,7 @@ use Rattle.bounds_check.below.affine_places.specs.contracts.layout.Extents as Ex
 use Rattle.bounds_check.below.affine_places.specs.contracts.layout.Layout as Layout
 use Rattle.bounds_check.below.affine_places.specs.contracts.rooted.Rooted as Rooted
 use Rattle.bounds_check.below.affine_places.specs.contracts.roots.Roots as Roots
-use Rattle.bounds_check.below.text_show.specs.contracts.names.Names as Names
+use Rattle.bounds_check.below.text_show.specs.contracts.names.ShownNames as Names
 use Rattle.bounds_check.below.text_show.specs.contracts.words.Words as Words
 use Rattle.check_claims.specs.contracts.extents.Extents as Claimed
 use Rattle.check_claims.specs.contracts.sources.Sources as Sources

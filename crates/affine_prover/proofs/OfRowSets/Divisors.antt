@@ -63,5 +63,11 @@ positive_of_dvd (suc g) a d h = omega arith
 pub gcd-positive : (a b : ℕ) → 0 < a → 0 < gcd a b
 gcd-positive a b h = positive_of_dvd (gcd a b) a (gcd-is a b).0 h
 
+pub gcd-zero : (a : ℕ) → gcd a 0 ≡ a
+gcd-zero a = same_from_IsGcd a 0 _ _ (gcd-is a 0) (IsGcd-from_zero a 0 refl)
+
+pub gcd-mod : (a b : ℕ) → gcd b (a % b) ≡ gcd a b
+gcd-mod a b = same_from_IsGcd a b _ _ (IsGcd-from_mod a b _ (gcd-is b (a % b))) (gcd-is a b)
+
 pub zero-gcd : (b : ℕ) → gcd 0 b ≡ b
 zero-gcd b = sym (same_from_IsGcd 0 b _ _ (IsGcd-from_mod 0 b b (subst (λ r. IsGcd b r b) (sym (zero-mod b)) (IsGcd-from_zero b 0 refl))) (gcd-is 0 b))

@@ -70,21 +70,7 @@ pub fn added(x: i128, g: i128, y: i128) -> Option<i128>
     if y == 0 { Some(x) } else { weighed(1, x, g, y) }
 }
 
-/// The greatest common divisor of two numbers of any size.
-fn wide_gcd(a: u128, b: u128) -> u128
-    ensures { result ≡ gcd a b }
-{
-    let mut x = a;
-    let mut y = b;
-    while y != 0 {
-        let rest = x % y;
-        x = y;
-        y = rest;
-    }
-    x
-}
-
-/// The greatest common divisor of two numbers of one machine word.
+/// The greatest common divisor of two numbers of one machine word, by Euclid's algorithm.
 fn small_gcd(a: u64, b: u64) -> u64
     ensures { result ≡ gcd a b }
 {
@@ -98,18 +84,26 @@ fn small_gcd(a: u64, b: u64) -> u64
     x
 }
 
-/// The greatest common divisor. Most numbers are 0 or small, so that no wide division is needed.
+/// The greatest common divisor of two numbers of any size. Two of one machine word need no wide
+/// division.
+fn wide_gcd(a: u128, b: u128) -> u128
+    ensures { result ≡ gcd a b }
+{
+    if b == 0 {
+        a
+    } else if a < WORD && b < WORD {
+        small_gcd(a as u64, b as u64) as u128
+    } else {
+        wide_gcd(b, a % b)
+    }
+}
+
+/// The greatest common divisor. Most numbers are 0.
 pub fn gcd(a: u128, b: u128) -> u128
     ensures value { result ≡ gcd a b }
     ensures positive { 0 < a → 0 < result }
 {
-    if a == 0 {
-        b
-    } else if a < WORD && b < WORD {
-        small_gcd(a as u64, b as u64) as u128
-    } else {
-        wide_gcd(a, b)
-    }
+    if a == 0 { b } else { wide_gcd(a, b) }
 }
 
 /// `a / g`. Most numbers are small, so that no wide division is needed.

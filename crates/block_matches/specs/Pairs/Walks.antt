@@ -9,10 +9,10 @@ use Rattle.match_laws.specs.Pairs.{same_cells}
 use Rattle.block_matches.specs.Pairs.Held.{ids_in, names_in}
 use Rattle.block_matches.specs.declared.pairs.data.Meeting.{Meeting}
 use Rattle.block_matches.specs.declared.pairs.data.Meeting.TheVariants.{Unlike, Param, Own}
-use Rattle.block_matches.specs.declared.pairs.walk.Walk.{Walk}
+use Rattle.block_matches.specs.declared.pairs.walk.PairWalk.{PairWalk}
 
 -- of the names of a walk
-abbrev pub in_walk : {A : Type 0} → ((ℕ → Bool) → (ℕ → Bool) → Names → Names → A) → Walk → A
+abbrev pub in_walk : {A : Type 0} → ((ℕ → Bool) → (ℕ → Bool) → Names → Names → A) → PairWalk → A
 in_walk f w =
     f (is_param (procedure w.callee.now)) (ids_in w.bound.now) (names_in w.ours.now)
     (names_in w.theirs.now)

@@ -14,7 +14,7 @@ use crate::pairs::buffer::Buffer;
 use crate::pairs::coordinates::{points, whole_of};
 use crate::pairs::names::is_param;
 use crate::pairs::pair::{Pair, push, push_numbers, push_unlike};
-use crate::pairs::walk::Walk;
+use crate::pairs::walk::PairWalk;
 use exo_tree::{Arg, Coord, Coords, Ctrl, DataExpr, Id, Indices, Path};
 use std::alloc::{AllocError, Global};
 use tree_uses::mentions::Names;
@@ -52,7 +52,7 @@ fn whole(alloc: Global, known: Option<&Buffer>) -> Result<Coords, AllocError>
     }
 }
 
-impl Walk<'_> {
+impl PairWalk<'_> {
     /// How a name of the callee meets a name of the block.
     fn meeting(&self, x: Id, y: Id) -> Meeting
         ensures { result ≡ in_walk meeting self.now x.0 y.0 }

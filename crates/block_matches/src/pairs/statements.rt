@@ -10,7 +10,7 @@ ghost use Rattle.block_matches.specs.Pairs.PlainPair.{plain_pair};
 ghost use Rattle.block_matches.specs.Pairs.Walks.{below, both_bind, in_walk};
 
 use crate::pairs::pair::{Pair, push, push_numbers, push_unlike};
-use crate::pairs::walk::Walk;
+use crate::pairs::walk::PairWalk;
 use exo_tree::{Block, Branch, Path, Step, Stmt};
 use std::alloc::{AllocError, Global};
 
@@ -30,7 +30,7 @@ fn into(outer: &Path, branch: Branch, index: usize) -> Result<Path, AllocError>
     Ok(path)
 }
 
-impl Walk<'_> {
+impl PairWalk<'_> {
     /// Two blocks, in a branch of the statement at a path.
     #[cycle(walk)]
     pub(crate) fn push_block<'b>(

@@ -16,14 +16,14 @@ use std::alloc::{AllocError, Global};
 /// A callee whose body is walked against a block: the names of its parameters and of its body,
 /// those that the block binds, and the names of the block's procedure.
 #[derive(Clone, Copy)]
-pub struct Walk<'a> {
+pub struct PairWalk<'a> {
     pub callee: &'a Proc,
     pub bound: &'a IdSet,
     pub ours: &'a NameTable,
     pub theirs: &'a NameTable,
 }
 
-impl Walk<'_> {
+impl PairWalk<'_> {
     /// The pairs of the callee's body and a block.
     pub fn pairs<'b>(
         &self,

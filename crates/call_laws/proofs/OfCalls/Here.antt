@@ -8,7 +8,7 @@ use Rattle.exo_tree.specs.Tree.{Kind, Argument, ControlArg, ConditionArg, Whole,
 use Rattle.exo_tree.specs.Tree.{TensorParam, WindowParam, Assign, Reduce, Config, Pass, If, For, Alloc, View}
 use Rattle.exo_tree.specs.Tree.{Call, Block, end, next, joined, Procedure}
 use Rattle.exo_tree.specs.Context.{rest_of}
-use Rattle.exo_tree.specs.Renaming.{binders, fresh_id}
+use Rattle.exo_tree.specs.Renaming.{binders, fresh_id, re_kind, re_param}
 use Rattle.exo_meaning.specs.Inputs.{is_buffer_of}
 use Rattle.exo_meaning.specs.Run.{unit_world, callees, callee_in, kinds_of}
 use Rattle.exo_meaning.specs.Unseen.{in_arguments}
@@ -27,7 +27,7 @@ use Rattle.inplace_laws.specs.Inline.{is_view}
 use Rattle.inplace_laws.proofs.Above.{above_law}
 use Rattle.match_laws.specs.Inline.AtOnce.{Put, puts, with_put, suits, all_suit}
 use Rattle.match_laws.specs.Inline.FreshCallee.{ids_of}
-use Rattle.match_laws.specs.Inline.InlineRule.{Called, called_in, param_ids, renumbered_kind, renumbered_param, with_fresh_ids}
+use Rattle.match_laws.specs.Inline.InlineRule.{Called, called_in, param_ids, with_fresh_ids}
 use Rattle.match_laws.specs.Inline.InlineRule.{inlined_call, inline_draft}
 use Rattle.match_laws.proofs.OfInline.AtOnce.{at_once}
 use Rattle.place_laws.specs.Scope.Holes.{roots_at}
@@ -48,11 +48,11 @@ use Rattle.meaning_laws.proofs.Numbers.{among, among_both}
 
 module _ (fields : ℕ → Option Kind) (scope : Scope) (to : ℕ → ℕ) where
   suit : (p : Param) (a : Argument) → is_for fields scope p.kind a ≡ true
-      → suits (renumbered_param to p).kind a ≡ true
+      → suits (re_param to p).kind a ≡ true
   suit p a h = by p.kind a h
     where
       by : (kind : ParamKind) (a : Argument) → is_for fields scope kind a ≡ true
-          → suits (renumbered_kind to kind) a ≡ true
+          → suits (re_kind to kind) a ≡ true
       by (ControlParam kind) a h = refl
       by (TensorParam cell dims memory) (ControlArg e) h = h
       by (TensorParam cell dims memory) (ConditionArg c) h = h
@@ -64,7 +64,7 @@ module _ (fields : ℕ → Option Kind) (scope : Scope) (to : ℕ → ℕ) where
       by (WindowParam cell dims memory) (Window x cs) h = refl
 
   pub all_suited : (ps : List Param) (args : List Argument) → are_for fields scope ps args ≡ true
-      → all_suit (map (renumbered_param to) ps) args ≡ true
+      → all_suit (map (re_param to) ps) args ≡ true
   all_suited [] args h = refl
   all_suited (p ∷ ps) [] h = refl
   all_suited (p ∷ ps) (a ∷ args) h =
@@ -100,10 +100,10 @@ views_given (p ∷ ps) (a ∷ args) h x =
 
 new_param : (to : ℕ → ℕ) (base : ℕ) (ps : List Param) (x : ℕ)
     → ((y : ℕ) → is_buffer_of y ps ≡ true → base ≤ to y)
-    → is_buffer_of x (map (renumbered_param to) ps) ≡ true → base ≤ x
+    → is_buffer_of x (map (re_param to) ps) ≡ true → base ≤ x
 new_param to base [] x low h = absurd (true≢false (sym h))
 new_param to base (p ∷ ps) x low h =
-    or_elim (x == to p.binder.id) (is_buffer_of x (map (renumbered_param to) ps)) h
+    or_elim (x == to p.binder.id) (is_buffer_of x (map (re_param to) ps)) h
     (λ e. subst (λ y. base ≤ y) (sym (eqb-true x (to p.binder.id) e))
     (low p.binder.id (or_left (p.binder.id == p.binder.id) (is_buffer_of p.binder.id ps)
     (eq-eqb p.binder.id p.binder.id refl))))

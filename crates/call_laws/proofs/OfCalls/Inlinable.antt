@@ -7,7 +7,7 @@ use Rattle.exo_tree.specs.Tree.{Kind, Argument, ControlArg, ConditionArg, Whole,
 use Rattle.exo_tree.specs.Tree.{TensorParam, WindowParam, Param, Procedure}
 use Rattle.exo_tree.specs.Tree.{Statement, Assign, Reduce, Config, Pass, If, For, Alloc, View, Call, Block, end, next, joined}
 use Rattle.exo_tree.specs.Context.{Context, Here, After, InLoop, InThen, InElse, fill, rest_of}
-use Rattle.exo_tree.specs.Renaming.{re_block, re_statement, fresh_id}
+use Rattle.exo_tree.specs.Renaming.{re_block, re_statement, fresh_id, re_param}
 use Rattle.exo_meaning.specs.Calls.{Callee}
 use Rattle.exo_meaning.specs.Inputs.{is_buffer_of}
 use Rattle.exo_meaning.specs.Unseen.{in_statement, in_block as mentions}
@@ -32,7 +32,7 @@ use Rattle.inplace_laws.specs.InPlace.{makes, step_makes}
 use Rattle.inplace_laws.specs.Inline.{inlined, with_argument, not_own}
 use Rattle.inplace_laws.specs.Uses.{in_block as uses}
 use Rattle.match_laws.specs.Inline.FreshCallee.{is_new, ids_of}
-use Rattle.match_laws.specs.Inline.InlineRule.{renumbered_param, with_fresh_ids}
+use Rattle.match_laws.specs.Inline.InlineRule.{with_fresh_ids}
 use Rattle.place_laws.proofs.OfScope.Apart.{renamed_mentions}
 use Rattle.step_rules.specs.Rule.{Spot}
 use Rattle.step_rules.specs.Lawful.{IsSpot, around, old}
@@ -53,12 +53,12 @@ abbrev Comes : (ℕ → ℕ) → (ℕ → Bool) → ℕ → Type 0
 Comes to old x = (y : ℕ) × (old y ≡ true) × (x ≡ to y)
 
 module _ (to : ℕ → ℕ) where
-  param_back : (ps : List Param) (x : ℕ) → is_buffer_of x (map (renumbered_param to) ps) ≡ true
+  param_back : (ps : List Param) (x : ℕ) → is_buffer_of x (map (re_param to) ps) ≡ true
       → Comes to (λ y. is_buffer_of y ps) x
   param_back [] x h = absurd (true≢false (sym h))
   param_back (p ∷ ps) x h =
       let i = p.binder.id in
-      or_elim (x == to i) (is_buffer_of x (map (renumbered_param to) ps))
+      or_elim (x == to i) (is_buffer_of x (map (re_param to) ps))
       {P = Comes to (λ y. (y == i) || is_buffer_of y ps) x} h
       (λ e. (i, or_left (i == i) (is_buffer_of i ps) (eq-eqb i i refl), eqb-true x (to i) e))
       (λ e. let b = param_back ps x e in
@@ -101,11 +101,11 @@ module _ (to : ℕ → ℕ) where
   -- parameters stay distinct
   distinct_still : (ps : List Param) → Differ ps
       → ((x y : ℕ) → is_buffer_of x ps ≡ true → is_buffer_of y ps ≡ true → to x ≡ to y → x ≡ y)
-      → AreDistinct (map (renumbered_param to) ps)
+      → AreDistinct (map (re_param to) ps)
   distinct_still [] h once = tt
   distinct_still (p ∷ ps) h once =
       let i = p.binder.id in (
-        not_if (is_buffer_of (to i) (map (renumbered_param to) ps))
+        not_if (is_buffer_of (to i) (map (re_param to) ps))
             (λ e. let b = param_back ps (to i) e in
             let same : i ≡ b.0 =
             once i b.0 (or_left (i == i) (is_buffer_of i ps) (eq-eqb i i refl))

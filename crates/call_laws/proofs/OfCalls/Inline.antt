@@ -12,7 +12,6 @@ use Rattle.match_laws.specs.Inline.FreshCallee.{is_new}
 use Rattle.match_laws.specs.Inline.InlineConditions.{IsInlinable}
 use Rattle.match_laws.specs.Inline.InlineRule.{Called, called_in, are_plain_arguments, inline_piece, with_fresh_ids}
 use Rattle.match_laws.specs.Inline.InlineRule.{inlined_call, inline_draft, MayInlineThere}
-use Rattle.match_laws.specs.Inline.Pieces as pieces
 use Rattle.match_laws.proofs.OfInline.InlineRule.{no_some}
 use Rattle.match_laws.proofs.OfInline.InlineRule as landed
 use Rattle.step_rules.specs.Rule.{Spot, Piece}
@@ -33,7 +32,7 @@ use Rattle.call_laws.proofs.OfCalls.Takes.{calls_take}
 
 -- ---- what was found
 
-record OnCall (p : Procedure) (at : Path) (c : pieces.Piece) : Type 0 where
+record OnCall (p : Procedure) (at : Path) (c : Piece) : Type 0 where
   first : Opened
   opens : opened 1 at p.body ≡ Some first
   call : Called
@@ -41,7 +40,7 @@ record OnCall (p : Procedure) (at : Path) (c : pieces.Piece) : Type 0 where
   plain : are_plain_arguments call.args ≡ true
   made : record { path = at; count = 1 } ≡ c
 
-on_call : (p : Procedure) (at : Path) (c : pieces.Piece) → inline_piece p at ≡ Some c → OnCall p at c
+on_call : (p : Procedure) (at : Path) (c : Piece) → inline_piece p at ≡ Some c → OnCall p at c
 on_call p at c e = outer (opened 1 at p.body) refl e
   where
     plainly : (o : Opened) → opened 1 at p.body ≡ Some o → (d : Called) → called_in o.piece ≡ Some d
@@ -127,11 +126,11 @@ module _ (a : Site) (is : IsSite inline_rule a) where
   abbrev kinds : ℕ → Kind
   kinds = kinds_of s.target.unit.fields
 
-  found : (c : pieces.Piece) × (inline_piece p is.at ≡ Some c)
+  found : (c : Piece) × (inline_piece p is.at ≡ Some c)
       × ((record { path = c.path; count = c.count }) ≡ s.piece)
   found =
       let m = made_of (inline_piece p is.at)
-      (λ (c : pieces.Piece). record { path = c.path; count = c.count }) s.piece is.chosen in
+      (λ (c : Piece). c) s.piece is.chosen in
       (m.of, m.found, m.made)
 
   on : OnCall p is.at found.0
@@ -139,7 +138,7 @@ module _ (a : Site) (is : IsSite inline_rule a) where
 
   opens : opened 1 is.at p.body ≡ Some s.opened
   opens =
-      ap (λ (c : pieces.Piece). opened c.count c.path p.body) on.made
+      ap (λ (c : Piece). opened c.count c.path p.body) on.made
       ∙ ap (λ (c : Piece). opened c.count c.path p.body) found.2
       ∙ is.spot.opens
 

@@ -27,7 +27,6 @@ use Rattle.inplace_laws.specs.InlineWindow.{is_name}
 use Rattle.inplace_laws.specs.Windows.{are_plain, coords_have, in_block as with_window, in_statement as window_in}
 use Rattle.match_laws.specs.Inline.InlineWindowRule.{Viewed, viewed_in, as_window, behind_first, window_piece}
 use Rattle.match_laws.specs.Inline.InlineWindowRule.{window_draft, MayRemoveView}
-use Rattle.match_laws.specs.Inline.Pieces as pieces
 use Rattle.match_laws.proofs.OfInline.InlineWindowRule as landed
 use Rattle.tree_edits.specs.Made.Passes.{or_pass}
 use Rattle.place_laws.specs.Scope.Holes.{with_rest, roots_at}
@@ -51,29 +50,29 @@ no_some a e = cc
 -- ---- what follows
 
 joined_count : (a b : Block)
-    → pieces.statements (joined a b) ≡ pieces.statements a + pieces.statements b
+    → length (statements (joined a b)) ≡ length (statements a) + length (statements b)
 joined_count end b = omega arith
 joined_count (next s a) b = let h = joined_count a b in omega arith
 
 parted_count : (n : ℕ) (b : Block) (p : Block × Block) → parted n b ≡ Some p
-    → pieces.statements b ≡ n + pieces.statements p.1
+    → length (statements b) ≡ n + length (statements p.1)
 parted_count zero b p e =
     let same : (end, b) ≡ p = some_injective (end, b) p e in
-    let h : pieces.statements b ≡ pieces.statements p.1 =
-    ap (λ (q : Block × Block). pieces.statements q.1) same in
+    let h : length (statements b) ≡ length (statements p.1) =
+    ap (λ (q : Block × Block). length (statements q.1)) same in
     omega arith
 parted_count (suc n) end p e = absurd (no_some p e)
 parted_count (suc n) (next a b) p e = go (parted n b) (parted_count n b) e
   where
     go : (o : Option (Block × Block))
-        → ((q : Block × Block) → o ≡ Some q → pieces.statements b ≡ n + pieces.statements q.1)
+        → ((q : Block × Block) → o ≡ Some q → length (statements b) ≡ n + length (statements q.1))
         → option_map (λ (q : Block × Block). (next a q.0, q.1)) o ≡ Some p
-        → suc (pieces.statements b) ≡ suc n + pieces.statements p.1
+        → suc (length (statements b)) ≡ suc n + length (statements p.1)
     go None below f = absurd (no_some p f)
     go (Some q) below f =
         let same : (next a q.0, q.1) ≡ p = some_injective (next a q.0, q.1) p f in
-        let h : pieces.statements q.1 ≡ pieces.statements p.1 =
-        ap (λ (r : Block × Block). pieces.statements r.1) same in
+        let h : length (statements q.1) ≡ length (statements p.1) =
+        ap (λ (r : Block × Block). length (statements r.1)) same in
         let k = below q refl in
         omega arith
 
@@ -84,13 +83,13 @@ rest_put (InLoop i lo hi c r) rest = rest_put c rest
 rest_put (InThen t c other r) rest = rest_put c rest
 rest_put (InElse t other c r) rest = rest_put c rest
 
-none_left : (b : Block) → pieces.statements b ≡ 0 → b ≡ end
+none_left : (b : Block) → length (statements b) ≡ 0 → b ≡ end
 none_left end h = refl
 none_left (next a b) h = absurd (omega arith)
 
 pub nothing_follows : NothingFollows
 nothing_follows path body i o first all =
-    let n = 1 + pieces.statements (rest_of i.around) in
+    let n = 1 + length (statements (rest_of i.around)) in
     let low : 1 ≤ n = omega arith in
     let high : n ≤ n = omega arith in
     let one = same_place 1 n path body o low all in
@@ -102,10 +101,10 @@ nothing_follows path body i o first all =
     let follows : rest_of i.around ≡ joined p.1 (rest_of o.around) =
     sym (ap (λ (j : Opened). rest_of j.around) is_start)
     ∙ rest_put o.around (joined p.1 (rest_of o.around)) in
-    let a : pieces.statements (rest_of i.around) ≡ pieces.statements p.1 + pieces.statements (rest_of o.around) =
-    ap pieces.statements follows ∙ joined_count p.1 (rest_of o.around) in
-    let b : pieces.statements o.piece ≡ 1 + pieces.statements p.1 = parted_count 1 o.piece p one.1.parts in
-    let c : pieces.statements o.piece ≡ n + pieces.statements q.1 = parted_count n o.piece q every.1.parts in
+    let a : length (statements (rest_of i.around)) ≡ length (statements p.1) + length (statements (rest_of o.around)) =
+    ap (λ (b : Block). length (statements b)) follows ∙ joined_count p.1 (rest_of o.around) in
+    let b : length (statements o.piece) ≡ 1 + length (statements p.1) = parted_count 1 o.piece p one.1.parts in
+    let c : length (statements o.piece) ≡ n + length (statements q.1) = parted_count n o.piece q every.1.parts in
     none_left (rest_of o.around) (omega arith)
 
 -- ---- what a window in the place of a name keeps
@@ -334,30 +333,30 @@ draft_is b draft e = go (viewed_in b) refl e
     go None f h = absurd (no_some draft h)
     go (Some v) f h = (v, f, some_injective (with_window v.binder.id (as_window v) (behind_first b)) draft h)
 
-record OnView (p : Procedure) (at : Path) (c : pieces.Piece) : Type 0 where
+record OnView (p : Procedure) (at : Path) (c : Piece) : Type 0 where
   first : Opened
   opens : opened 1 at p.body ≡ Some first
   path : c.path ≡ at
-  count : c.count ≡ 1 + pieces.statements (rest_of first.around)
+  count : c.count ≡ 1 + length (statements (rest_of first.around))
 
-on_view : (p : Procedure) (at : Path) (c : pieces.Piece) → window_piece p at ≡ Some c → OnView p at c
+on_view : (p : Procedure) (at : Path) (c : Piece) → window_piece p at ≡ Some c → OnView p at c
 on_view p at c e = go (opened 1 at p.body) refl e
   where
     inner : (o : Opened) → opened 1 at p.body ≡ Some o → (u : Option Viewed)
         → (elim u [
           | None ↦ None
-          | Some v ↦ Some (record { path = at; count = 1 + pieces.statements (rest_of o.around) })
+          | Some v ↦ Some (record { path = at; count = 1 + length (statements (rest_of o.around)) })
         ]) ≡ Some c
         → OnView p at c
     inner o f None h = absurd (no_some c h)
     inner o f (Some v) h =
-        let made : record { path = at; count = 1 + pieces.statements (rest_of o.around) } ≡ c =
-        some_injective (record { path = at; count = 1 + pieces.statements (rest_of o.around) }) c h in
+        let made : record { path = at; count = 1 + length (statements (rest_of o.around)) } ≡ c =
+        some_injective (record { path = at; count = 1 + length (statements (rest_of o.around)) }) c h in
         record {
           first = o;
           opens = f;
-          path = sym (ap (λ (d : pieces.Piece). d.path) made);
-          count = sym (ap (λ (d : pieces.Piece). d.count) made);
+          path = sym (ap (λ (d : Piece). d.path) made);
+          count = sym (ap (λ (d : Piece). d.count) made);
         }
 
     go : (o : Option Opened) → opened 1 at p.body ≡ o
@@ -365,7 +364,7 @@ on_view p at c e = go (opened 1 at p.body) refl e
           | None ↦ None
           | Some k ↦ elim (viewed_in k.piece) [
             | None ↦ None
-            | Some v ↦ Some (record { path = at; count = 1 + pieces.statements (rest_of k.around) })
+            | Some v ↦ Some (record { path = at; count = 1 + length (statements (rest_of k.around)) })
           ]
         ]) ≡ Some c
         → OnView p at c
@@ -379,11 +378,11 @@ module _ (a : Site) (is : IsSite inline_window_rule a) where
   abbrev s : Spot
   s = a.spot
 
-  found : (c : pieces.Piece) × (window_piece s.target.proc is.at ≡ Some c)
+  found : (c : Piece) × (window_piece s.target.proc is.at ≡ Some c)
       × ((record { path = c.path; count = c.count }) ≡ s.piece)
   found =
       let m = made_of (window_piece s.target.proc is.at)
-      (λ (p : pieces.Piece). record { path = p.path; count = p.count }) s.piece is.chosen in
+      (λ (p : Piece). p) s.piece is.chosen in
       (m.of, m.found, m.made)
 
   last : rest_of (around s) ≡ end
@@ -391,7 +390,7 @@ module _ (a : Site) (is : IsSite inline_window_rule a) where
       let f = found in
       let on = on_view s.target.proc is.at f.0 f.1 in
       let path : s.piece.path ≡ is.at = sym (ap (λ (p : Piece). p.path) f.2) ∙ on.path in
-      let count : s.piece.count ≡ 1 + pieces.statements (rest_of on.first.around) =
+      let count : s.piece.count ≡ 1 + length (statements (rest_of on.first.around)) =
       sym (ap (λ (p : Piece). p.count) f.2) ∙ on.count in
       nothing_follows is.at s.target.proc.body on.first s.opened on.opens
       (ap₂ (λ (n : ℕ) (at : Path). opened n at s.target.proc.body) (sym count) (sym path) ∙ is.spot.opens)

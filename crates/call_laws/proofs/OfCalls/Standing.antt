@@ -1,7 +1,7 @@
 -- What holds where a run comes to a call.
 use Rattle.std.proofs.Common.{◌≡◌, ℕ, true≢false, List, [], ◌∷◌, Option, Some, None, IsSome, map, refl, sym}
 use Rattle.exo_tree.specs.Tree.{Kind, ParamKind, ControlParam, TensorParam, WindowParam, Param}
-use Rattle.exo_tree.specs.Renaming.{fresh_id}
+use Rattle.exo_tree.specs.Renaming.{fresh_id, re_kind, re_param}
 use Rattle.exo_meaning.specs.Calls.{Given, GivenNumber, GivenView, all_given}
 use Rattle.exo_meaning.specs.State.{State}
 use Rattle.exo_meaning.specs.Units.{Scope, field_kind}
@@ -11,7 +11,6 @@ use Rattle.meaning_laws.proofs.Names.{if_gives}
 use Rattle.meaning_laws.proofs.Sound.{IsThere, AreThere, all_there}
 use Rattle.inplace_laws.specs.CallInPlace.{HasType, HaveTypes}
 use Rattle.match_laws.specs.Inline.FreshCallee.{ids_of}
-use Rattle.match_laws.specs.Inline.InlineRule.{renumbered_kind, renumbered_param}
 use Rattle.step_rules.specs.Lawful.{scope_here, world_of}
 use Rattle.step_rules.proofs.Replaced.{stands}
 use Rattle.call_laws.specs.Calls.Here.{CallsStandThere}
@@ -24,7 +23,7 @@ there_is (Some a) h = (a, refl)
 module _ (fields : ℕ → Option Kind) (kinds : ℕ → Kind) (scope : Scope) (s : State)
     (sorted : IsSorted kinds scope s) (to : ℕ → ℕ) where
   one : (kind : ParamKind) (g : Given) → Matches fields kinds scope s sorted kind g → IsThere s g
-      → HasType s (renumbered_kind to kind) g
+      → HasType s (re_kind to kind) g
   one (ControlParam kind) g h k = tt
   one (TensorParam cell dims memory) (GivenNumber n) h k = tt
   one (TensorParam cell dims memory) (GivenView z) h k =
@@ -34,7 +33,7 @@ module _ (fields : ℕ → Option Kind) (kinds : ℕ → Kind) (scope : Scope) (
       let b = there_is (s.scene.buffers z.buffer) k in (b.0, b.1, h b.0 b.1)
 
   pub all : (ps : List Param) (gs : List Given) → AllMatch fields kinds scope s sorted ps gs
-      → AreThere s gs → HaveTypes s (map (renumbered_param to) ps) gs
+      → AreThere s gs → HaveTypes s (map (re_param to) ps) gs
   all [] gs h k = tt
   all (p ∷ ps) [] h k = tt
   all (p ∷ ps) (g ∷ gs) h k = (one p.kind g h.0 k.0, all ps gs h.1 k.1)

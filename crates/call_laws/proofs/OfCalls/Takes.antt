@@ -7,7 +7,7 @@ use Rattle.exo_tree.specs.Tree.{Control, Lit, Var, Field, StrideOf, Neg, Add, Su
 use Rattle.exo_tree.specs.Tree.{Cell, Kind, Coord, Argument, ControlArg, ConditionArg, Whole, Window}
 use Rattle.exo_tree.specs.Tree.{Condition, True, False, Flag, FieldFlag, Lt, Le, Gt, Ge, Eq, And, Or}
 use Rattle.exo_tree.specs.Tree.{ParamKind, ControlParam, TensorParam, WindowParam, Param, Block, Procedure}
-use Rattle.exo_tree.specs.Renaming.{fresh_id, renaming}
+use Rattle.exo_tree.specs.Renaming.{fresh_id, renaming, re_kind, re_param}
 use Rattle.exo_meaning.specs.Inputs.{is_buffer_of}
 use Rattle.exo_meaning.specs.Renaming.{Renaming}
 use Rattle.exo_meaning.specs.Unseen.{in_control, in_condition, in_coords, in_argument, in_arguments}
@@ -28,7 +28,7 @@ use Rattle.inplace_laws.specs.Windows.{coords_of, are_plain}
 use Rattle.inplace_laws.specs.Steady.{has_stride}
 use Rattle.inplace_laws.proofs.Steady.{plain_is_steady}
 use Rattle.match_laws.specs.Inline.FreshCallee.{ids_of}
-use Rattle.match_laws.specs.Inline.InlineRule.{is_plain_argument, are_plain_arguments, renumbered_kind, renumbered_param}
+use Rattle.match_laws.specs.Inline.InlineRule.{is_plain_argument, are_plain_arguments}
 use Rattle.match_laws.specs.Inline.InlineRule.{with_fresh_ids}
 use Rattle.step_rules.specs.Lawful.{around, scope_here}
 use Rattle.call_laws.specs.Calls.Names.Scopes.{bound_at}
@@ -193,7 +193,7 @@ module _ (params bound : ℕ → Bool) (apart_from : (x : ℕ) → bound x ≡ t
   one_taken : (x : ℕ) (kind : ParamKind) (a : Argument) (b : Block)
       → is_for fields scope kind a ≡ true → is_steady_argument a ≡ true
       → in_argument (is_not bound) a ≡ false → has_binder b x ≡ false → IsOutside b
-      → KindUncaught kind x b → Takes params x (renumbered_kind to kind) a b
+      → KindUncaught kind x b → Takes params x (re_kind to kind) a b
   one_taken x (ControlParam kind) (ControlArg e) b fits plain said own outside uncaught = (
     plain,
     any_uncaught x e b
@@ -255,12 +255,12 @@ module _ (params bound : ℕ → Bool) (apart_from : (x : ℕ) → bound x ≡ t
       → ((y : ℕ) → is_buffer_of y ps ≡ true → bound (to y) ≡ false)
       → ((y : ℕ) → is_buffer_of y ps ≡ true → has_binder b (to y) ≡ false)
       → IsOutside b → AreUncaught to ps b
-      → TakesAll params (map (renumbered_param to) ps) args b
+      → TakesAll params (map (re_param to) ps) args b
   all_taken [] args b fit plain said new own outside uncaught = tt
   all_taken (p ∷ ps) [] b fit plain said new own outside uncaught = tt
   all_taken (p ∷ ps) (a ∷ args) b fit plain said new own outside uncaught =
       let i = p.binder.id in
-      let kind = renumbered_kind to p.kind in
+      let kind = re_kind to p.kind in
       let f = and_parts (is_for fields scope p.kind a) (are_for fields scope ps args) fit in
       let g = and_parts (is_steady_argument a) (are_steady args) plain in
       let h = or_parts (in_argument (is_not bound) a) (in_arguments (is_not bound) args) said in
@@ -277,13 +277,13 @@ module _ (params bound : ℕ → Bool) (apart_from : (x : ℕ) → bound x ≡ t
 -- ---- at a call
 
 param_forth : (to : ℕ → ℕ) (ps : List Param) (y : ℕ) → is_buffer_of y ps ≡ true
-    → is_buffer_of (to y) (map (renumbered_param to) ps) ≡ true
+    → is_buffer_of (to y) (map (re_param to) ps) ≡ true
 param_forth to [] y h = h
 param_forth to (p ∷ ps) y h =
     or_elim (y == p.binder.id) (is_buffer_of y ps) h
-    (λ e. or_left (to y == to p.binder.id) (is_buffer_of (to y) (map (renumbered_param to) ps))
+    (λ e. or_left (to y == to p.binder.id) (is_buffer_of (to y) (map (re_param to) ps))
     (eq-eqb (to y) (to p.binder.id) (ap to (eqb-true y p.binder.id e))))
-    (λ e. or_right (to y == to p.binder.id) (is_buffer_of (to y) (map (renumbered_param to) ps))
+    (λ e. or_right (to y == to p.binder.id) (is_buffer_of (to y) (map (re_param to) ps))
     (param_forth to ps y e))
 
 -- a callee with fresh ids catches nothing of its number parameters

@@ -5,6 +5,7 @@ use Rattle.std.proofs.Common.{eq-eqb, not}
 use Rattle.exo_tree.specs.Tree.{Control, Condition, Argument, ControlArg, ConditionArg, Whole, Window}
 use Rattle.exo_tree.specs.Tree.{ParamKind, ControlParam, TensorParam, WindowParam, Param, Block}
 use Rattle.exo_tree.specs.Tree.{Procedure}
+use Rattle.exo_tree.specs.Renaming as tree
 use Rattle.exo_meaning.specs.Renaming.{Renaming}
 use Rattle.exo_meaning.specs.Unseen.{in_control, in_condition, in_coords, in_argument, in_arguments}
 use Rattle.exo_meaning.proofs.Frame.{or_parts}
@@ -13,9 +14,8 @@ use Rattle.inplace_laws.specs.Inline.{is_view}
 use Rattle.inplace_laws.specs.Windows.{root_in, coords_of}
 use Rattle.affine_forms.specs.Forms.{Reading}
 use Rattle.match_laws.specs.Names.{Names}
-use Rattle.match_laws.specs.RenamedCallee.{re_kind, re_params}
-use Rattle.match_laws.specs.Matched.{number_in, truth_in, given_to}
-use Rattle.match_laws.specs.Inline.InlineRule.{renumbered_kind, renumbered_param}
+use Rattle.match_laws.specs.RenamedCallee.{re_kind, re_param, re_params}
+use Rattle.match_laws.specs.Matched.{number_in, truth_in}
 use Rattle.match_laws.specs.Inline.AtOnce.{Put, puts, with_put}
 use Rattle.match_laws.specs.Inline.MatchLaw.{dims_if, dims_of, is_known}
 use Rattle.match_laws.specs.Inline.MovedIsPut.{is_of_kind, are_of_kinds}
@@ -112,7 +112,7 @@ module _ (hidden : ℕ → Bool) where
 
 pub given_clear : (hidden : ℕ → Bool) (at : Reading) (theirs : Names) (block : Block) (q : Procedure)
     (ps : List Param) (args : List Argument) (x : ℕ) → in_arguments hidden args ≡ false
-    → IfSome (given_to at theirs block q ps args x) (λ a. in_argument hidden a ≡ false)
+    → IfSome (passed_for ps args x) (λ a. in_argument hidden a ≡ false)
 given_clear hidden at theirs block q [] args x h = tt
 given_clear hidden at theirs block q (p ∷ ps) [] x h = tt
 given_clear hidden at theirs block q (p ∷ ps) (a ∷ args) x h =
@@ -120,24 +120,16 @@ given_clear hidden at theirs block q (p ∷ ps) (a ∷ args) x h =
     go (p.binder.id == x) k.0 (given_clear hidden at theirs block q ps args x k.1)
   where
     go : (t : Bool) → in_argument hidden a ≡ false
-        → IfSome (given_to at theirs block q ps args x) (λ a. in_argument hidden a ≡ false)
-        → IfSome (if t then Some a else given_to at theirs block q ps args x) (λ a. in_argument hidden a ≡ false)
+        → IfSome (passed_for ps args x) (λ a. in_argument hidden a ≡ false)
+        → IfSome (if t then Some a else passed_for ps args x) (λ a. in_argument hidden a ≡ false)
     go true i k = i
     go false i k = k
 
 -- ---- parameters under other ids
 
-kinds_are : (r : Renaming) (kind : ParamKind) → renumbered_kind r.to kind ≡ re_kind r kind
-kinds_are r (ControlParam kind) = refl
-kinds_are r (TensorParam cell dims memory) = refl
-kinds_are r (WindowParam cell dims memory) = refl
-
-pub params_same : (r : Renaming) (ps : List Param) → map (renumbered_param r.to) ps ≡ re_params r ps
+pub params_same : (r : Renaming) (ps : List Param) → map (tree.re_param r.to) ps ≡ re_params r ps
 params_same r [] = refl
-params_same r (p ∷ ps) =
-    ap₂ (λ (k : ParamKind) (qs : List Param).
-    record { binder = record p.binder { id = r.to p.binder.id }; kind = k } ∷ qs)
-    (kinds_are r p.kind) (params_same r ps)
+params_same r (p ∷ ps) = ap (λ (qs : List Param). re_param r p ∷ qs) (params_same r ps)
 
 -- a view that is given for a parameter is put for it
 pub name_is : (r : Renaming) (ps : List Param) (args : List Argument) (x : ℕ)

@@ -7,6 +7,7 @@ use Rattle.exo_tree.specs.Tree.{Mod, Condition, True, False, Flag, FieldFlag, Lt
 use Rattle.exo_tree.specs.Tree.{Or, Argument, ControlArg, ConditionArg, Whole, Window, ParamKind}
 use Rattle.exo_tree.specs.Tree.{ControlParam, TensorParam, WindowParam, Param, Block, Procedure}
 use Rattle.exo_tree.specs.Places.{Main}
+use Rattle.exo_tree.specs.Passed.{passed_for}
 use Rattle.exo_tree.specs.Renaming.{re_controls, re_coords, binders}
 use Rattle.exo_meaning.specs.Calls.{Callee}
 use Rattle.exo_meaning.specs.Inputs.{is_buffer_of}
@@ -32,7 +33,7 @@ use Rattle.match_laws.specs.Pairs.{Pair, Numbers, Truths, Binders, Own, Access, 
 use Rattle.match_laws.specs.Matched.{known_if, known_by, variable_of, flag_of, argument_if}
 use Rattle.match_laws.specs.Matched.{argument_in, partner, number_in, truth_in, stride_in, moving}
 use Rattle.match_laws.specs.Matched.{variable_for, stride_for, Arguments, matched, params, all_pairs}
-use Rattle.match_laws.specs.Matched.{to, walk, given_to, argument_for}
+use Rattle.match_laws.specs.Matched.{to, walk, argument_for}
 use Rattle.match_laws.specs.MatchedFits.{AreGiven, given_names, IsMatch}
 use Rattle.match_laws.specs.RenamedCallee.{re_kind, re_params, re_procedure}
 use Rattle.match_laws.proofs.MatchedFits.{matched_fits}
@@ -238,7 +239,7 @@ module _ (fields : ℕ → Option Kind) (memories : ℕ) (callees called : ℕ �
   its_to = to at theirs block q
 
   abbrev given : ℕ → Option Argument
-  given = given_to at theirs block q q.params args
+  given = passed_for q.params args
 
   abbrev m : Moving
   m = given_names at theirs block q args
@@ -467,7 +468,7 @@ module _ (fields : ℕ → Option Kind) (memories : ℕ) (callees called : ℕ �
       = or_left (x == x) (is_buffer_of x ps) (eq-eqb x x refl) in
       let is : given (r.to x) ≡ Some a
       = l.gives x here
-      ∙ ap (λ t. if t then Some a else given_to at theirs block q (re_params r ps) those (r.to x))
+      ∙ ap (λ t. if t then Some a else passed_for (re_params r ps) those (r.to x))
       (eq-eqb (r.to x) (r.to x) refl) in
       ap₂ ◌&&◌ (go p.kind fit.0 (l.are x here) is)
       (numbers ps those fit.1 (and_parts (is_for fields scope p.kind a) (are_for fields scope ps those) i).1

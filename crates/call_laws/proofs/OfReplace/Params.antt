@@ -9,6 +9,7 @@ use Rattle.exo_tree.specs.Tree.{ControlArg, ConditionArg, Whole, Window, ParamKi
 use Rattle.exo_tree.specs.Tree.{TensorParam, WindowParam, Param, Statement, Assign, Reduce, Config}
 use Rattle.exo_tree.specs.Tree.{Pass, If, For, Alloc, View, Call, Block, end, next, Procedure}
 use Rattle.exo_tree.specs.Places.{Path}
+use Rattle.exo_tree.specs.Passed.{passed_for}
 use Rattle.exo_tree.specs.Renaming.{re_controls, re_coords}
 use Rattle.exo_meaning.specs.Inputs.{is_buffer_of}
 use Rattle.exo_meaning.specs.Renaming.{Renaming}
@@ -30,7 +31,7 @@ use Rattle.match_laws.specs.Moved.{Moving}
 use Rattle.match_laws.specs.Fitting.{coords_moved}
 use Rattle.match_laws.specs.Matched.{or_differs, argument_in, number_in, truth_in, stride_in, moving}
 use Rattle.match_laws.specs.Matched.{variable_for, stride_for}
-use Rattle.match_laws.specs.Matched.{params, walk, given_to, argument_for}
+use Rattle.match_laws.specs.Matched.{params, walk, argument_for}
 use Rattle.match_laws.specs.MatchedFits.{AreGiven}
 use Rattle.match_laws.specs.RenamedCallee.{re_kind, re_params}
 use Rattle.match_laws.proofs.RenamedCallee.{same_ids}
@@ -416,7 +417,7 @@ module _ (fields : ℕ → Option Kind) (memories : ℕ) (scope : Scope) (known 
   pub record Left (ps : List Param) (args : List Argument) : Type 0 where
     pub are : (x : ℕ) → is_buffer_of x ps ≡ true → par (r.to x) ≡ true
     pub gives : (x : ℕ) → is_buffer_of x ps ≡ true
-        → given (r.to x) ≡ given_to at theirs block q (re_params r ps) args (r.to x)
+        → given (r.to x) ≡ passed_for (re_params r ps) args (r.to x)
     pub dims : (x : ℕ) → is_buffer_of x ps ≡ true
         → dims_of q.params (r.to x) ≡ dims_of (re_params r ps) (r.to x)
 
@@ -447,7 +448,7 @@ module _ (fields : ℕ → Option Kind) (memories : ℕ) (scope : Scope) (known 
   later p a ps args new left = record {
     are = λ y e. left.are y (or_right (y == p.binder.id) (is_buffer_of y ps) e);
     gives = λ y e. left.gives y (or_right (y == p.binder.id) (is_buffer_of y ps) e)
-        ∙ ap (λ t. if t then Some a else given_to at theirs block q (re_params r ps) args (r.to y))
+        ∙ ap (λ t. if t then Some a else passed_for (re_params r ps) args (r.to y))
         (flipped y p.binder.id (apart_from p ps y new e));
     dims = λ y e. left.dims y (or_right (y == p.binder.id) (is_buffer_of y ps) e)
         ∙ ap (λ t. dims_if (re_kind r p.kind) t (dims_of (re_params r ps) (r.to y)))
@@ -470,7 +471,7 @@ module _ (fields : ℕ → Option Kind) (memories : ℕ) (scope : Scope) (known 
       let fit = and_parts (is_for fields scope p.kind a) (are_for fields scope ps args) i in
       let stands = one_stands x a (left.are x here)
       (left.gives x here
-      ∙ ap (λ t. if t then Some a else given_to at theirs block q (re_params r ps) args (r.to x))
+      ∙ ap (λ t. if t then Some a else passed_for (re_params r ps) args (r.to x))
       (eq-eqb (r.to x) (r.to x) refl)) read.0 p.kind fit.0 g.0
       (this_dims p.kind (dims_of q.params (r.to x)) (dims_of (re_params r ps) (r.to x))
       (left.dims x here ∙ ap (λ t. dims_if (re_kind r p.kind) t (dims_of (re_params r ps) (r.to x)))

@@ -17,6 +17,6 @@ inlined_there s base =
 abbrev pub inline_rule : Rule
 inline_rule =
     plain_rule
-    (λ t at. tried (inline_piece t.proc at) (λ p. record { path = p.path; count = p.count }))
+    (λ t at. tried (inline_piece t.proc at) (λ p. p))
     (λ s base. tried (inlined_there s base) (λ b. b))
     (λ s. [])

@@ -7,7 +7,6 @@ use Rattle.inplace_laws.specs.Windows.{in_block as with_window}
 use Rattle.match_laws.specs.Inline.InlineWindowRule.{Viewed, as_window, behind_first, window_piece}
 use Rattle.match_laws.specs.Inline.InlineWindowRule.{window_draft}
 use Rattle.match_laws.specs.Inline.InlineWindowRule.{MayRemoveView}
-use Rattle.match_laws.specs.Inline.Pieces as pieces
 use Rattle.cursor_forward.specs.Shifts.{Shift, at_index, range}
 use Rattle.step_rules.specs.Rule.{Rule, Spot, plain_rule}
 use Rattle.step_rules.specs.Lawful.{IsSpot, IsFormedHere, around, old}
@@ -21,7 +20,7 @@ window_moves piece =
 abbrev pub inline_window_rule : Rule
 inline_window_rule =
     plain_rule
-    (λ t at. tried (window_piece t.proc at) (λ p. record { path = p.path; count = p.count }))
+    (λ t at. tried (window_piece t.proc at) (λ p. p))
     (λ s base. tried (window_draft (old s)) (λ b. b))
     (λ s. window_moves (old s))
 
@@ -30,7 +29,7 @@ abbrev pub NothingFollows : Type 0
 NothingFollows =
     (path : Path) (body : Block) (i o : Opened)
     → opened 1 path body ≡ Some i
-    → opened (1 + pieces.statements (rest_of i.around)) path body ≡ Some o
+    → opened (1 + length (statements (rest_of i.around))) path body ≡ Some o
     → rest_of o.around ≡ end
 
 -- a view with what follows it, where what is made of that is formed there

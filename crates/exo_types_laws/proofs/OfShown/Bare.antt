@@ -1,6 +1,6 @@
 -- The tokens of a line without their places.
 use Rattle.std.proofs.Common.{◌≡◌, ℕ, zero, suc, ◌+◌, ◌-◌, List, [], ◌∷◌, ◌++◌, map, Bool, true, false, cond, if◌then◌else◌, nat_eq, eqb, length, refl, ap}
-use Rattle.text_lexer.specs.Piece.{piece_of}
+use Rattle.text_lexer.specs.Lexeme.{lexeme_of}
 use Rattle.text_lexer.specs.Layout.{token_of, tokens_in, put, at}
 use Rattle.text_lexer.specs.declared.token.Token.{Token}
 use Rattle.text_lexer.specs.declared.place.Placed.{Placed}
@@ -12,7 +12,7 @@ bare (suc covered) (b ∷ rest) = bare covered rest
 bare zero (b ∷ rest) =
     if nat_eq b 0x20 then bare zero rest
     else (if nat_eq b 0x23 then []
-    else (piece_of (b ∷ rest)).token ∷ bare ((piece_of (b ∷ rest)).width - 1) rest)
+    else (lexeme_of (b ∷ rest)).token ∷ bare ((lexeme_of (b ∷ rest)).width - 1) rest)
 
 bare_by : (blank comment : Bool) (p : Placed) (xs ys : List Placed) (us vs : List Token) → map token_of xs ≡ us → map token_of ys ≡ vs → map token_of (cond blank xs (cond comment [] (p ∷ ys))) ≡ cond blank us (cond comment [] (p.token ∷ vs))
 bare_by true comment p xs ys us vs e f = e
@@ -23,7 +23,7 @@ pub bare_is : (line column covered : ℕ) (bytes : List ℕ) → map token_of (t
 bare_is line column covered [] = refl
 bare_is line column (suc covered) (b ∷ rest) = bare_is line (column + 1) covered rest
 bare_is line column zero (b ∷ rest) =
-    let piece = piece_of (b ∷ rest) in
+    let piece = lexeme_of (b ∷ rest) in
     bare_by (eqb b 0x20) (eqb b 0x23) (put (at line column) piece.token) (tokens_in line (column + 1) zero rest) (tokens_in line (column + 1) (piece.width - 1) rest) (bare zero rest) (bare (piece.width - 1) rest)
     (bare_is line (column + 1) zero rest) (bare_is line (column + 1) (piece.width - 1) rest)
 

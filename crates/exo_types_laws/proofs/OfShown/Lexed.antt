@@ -5,11 +5,11 @@ use Rattle.std.proofs.lemmas.List.Sums.{take_while-cons}
 use Rattle.std.specs.Char.{is_ascii_digit}
 use Rattle.text_lexer.specs.Bytes.{is_printable, is_quote, begins_name, goes_on_name, escaped}
 use Rattle.text_lexer.specs.Quoted.{behind, ends, unescaped, quoted, after_backslash}
-use Rattle.text_lexer.specs.Piece.{word_of, decorator_of, sign_of, sign_with_equals, string_ending, string_piece, word_token, name_piece, decorated, decorator_piece, digits_piece, literal_piece, lone_piece, longer_piece, sign_piece, piece_of}
+use Rattle.text_lexer.specs.Lexeme.{word_of, decorator_of, sign_of, sign_with_equals, string_ending, string_lexeme, word_token, name_lexeme, decorated, decorator_lexeme, digits_lexeme, literal_lexeme, lone_lexeme, longer_lexeme, sign_lexeme, lexeme_of}
 use Rattle.text_lexer.specs.Layout.{at, put, token_of, lines, tokens_in, is_fault, up_to_fault, line_tokens, is_import, innermost, still_open, blocks_at, indentation, is_foreign, brackets_after, line_end, with_end, Laid, begun, laid, text_end, layout, end_place, lexed}
 use Rattle.text_lexer.specs.declared.place.Place.{Place}
 use Rattle.text_lexer.specs.declared.place.Placed.{Placed}
-use Rattle.text_lexer.specs.declared.piece.Piece.{Piece}
+use Rattle.text_lexer.specs.declared.lexeme.Lexeme.{Lexeme}
 use Rattle.text_lexer.specs.declared.quoted.Ending.{Ending}
 use Rattle.text_lexer.specs.declared.quoted.Ending.TheVariants.{Closed, Unclosed, Foreign}
 use Rattle.text_lexer.specs.declared.quoted.Quoted.{Quoted}
@@ -31,10 +31,10 @@ IsNamed (token.Name x) = IsName x
 IsNamed (token.Str x) = Each IsTemplateByte x
 IsNamed other = Unit {0}
 
-abbrev Good : Piece → Type 0
+abbrev Good : Lexeme → Type 0
 Good p = IsNamed p.token
 
-by_test : (b : Bool) (p q : Piece) → (b ≡ true → Good p) → Good q → Good (if b then p else q)
+by_test : (b : Bool) (p q : Lexeme) → (b ≡ true → Good p) → Good q → Good (if b then p else q)
 by_test true p q h k = h refl
 by_test false p q h k = k
 
@@ -57,7 +57,7 @@ taken_first b rest h =
     take_while-cons goes_on_name b rest ∙ ap (λ t. cond t (b ∷ take_while goes_on_name rest) []) (goes_on b h) in
     subst BeginsName (sym first) h
 
-name_good : (b : ℕ) (rest : List ℕ) → begins_name b ≡ true → Good (name_piece (take_while goes_on_name (b ∷ rest)))
+name_good : (b : ℕ) (rest : List ℕ) → begins_name b ≡ true → Good (name_lexeme (take_while goes_on_name (b ∷ rest)))
 name_good b rest h = by (bytes_eq text (codes "_")) refl
   where
     text : List ℕ
@@ -123,44 +123,44 @@ string_good Unclosed q h = tt
 
 -- ---- other pieces
 
-literal_good : (digits : List ℕ) → Good (literal_piece digits)
+literal_good : (digits : List ℕ) → Good (literal_lexeme digits)
 literal_good [] = tt
-literal_good (d ∷ digits) = by_test (nat_eq d 0x30) (record { token = token.Int (Value 0); width = 1 }) (digits_piece (d ∷ digits)) (λ e. tt) tt
+literal_good (d ∷ digits) = by_test (nat_eq d 0x30) (record { token = token.Int (Value 0); width = 1 }) (digits_lexeme (d ∷ digits)) (λ e. tt) tt
 
 decorator_good : (o : Option Decorator) (width : ℕ) → Good (decorated o width)
 decorator_good (Some d) width = tt
 decorator_good None width = tt
 
-lone_good : (o : Option Sign) → Good (lone_piece o)
+lone_good : (o : Option Sign) → Good (lone_lexeme o)
 lone_good (Some s) = tt
 lone_good None = tt
 
-longer_good : (o : Option Sign) (b : ℕ) → Good (longer_piece o b)
+longer_good : (o : Option Sign) (b : ℕ) → Good (longer_lexeme o b)
 longer_good (Some s) b = tt
 longer_good None b = lone_good (sign_of b)
 
-sign_good : (b : ℕ) (rest : List ℕ) → Good (sign_piece b rest)
+sign_good : (b : ℕ) (rest : List ℕ) → Good (sign_lexeme b rest)
 sign_good b [] = lone_good (sign_of b)
-sign_good b (c ∷ rest) = by_test (nat_eq c 0x3D) (longer_piece (sign_with_equals b) b) (lone_piece (sign_of b)) (λ e. longer_good (sign_with_equals b) b) (lone_good (sign_of b))
+sign_good b (c ∷ rest) = by_test (nat_eq c 0x3D) (longer_lexeme (sign_with_equals b) b) (lone_lexeme (sign_of b)) (λ e. longer_good (sign_with_equals b) b) (lone_good (sign_of b))
 
-foreign : Piece
+foreign : Lexeme
 foreign = record { token = token.Bad Byte; width = 1 }
 
-piece_good : (bytes : List ℕ) → Good (piece_of bytes)
+piece_good : (bytes : List ℕ) → Good (lexeme_of bytes)
 unfolding foreign
 piece_good [] = tt
 piece_good (b ∷ rest) =
     let digits : List ℕ = take_while is_ascii_digit (b ∷ rest) in
     let word : List ℕ = take_while goes_on_name rest in
-    let fourth : Piece = if is_printable b then sign_piece b rest else foreign in
-    let third : Piece = if nat_eq b 0x40 then decorator_piece word else fourth in
-    let second : Piece = if is_quote b then string_piece (quoted b rest) else third in
-    let first : Piece = if is_ascii_digit b then literal_piece digits else second in
-    by_test (begins_name b) (name_piece (take_while goes_on_name (b ∷ rest))) first (name_good b rest)
-    (by_test (is_ascii_digit b) (literal_piece digits) second (λ e. literal_good digits)
-    (by_test (is_quote b) (string_piece (quoted b rest)) third (λ e. string_good (quoted b rest).ending (quoted b rest) (quoted_good b rest))
-    (by_test (nat_eq b 0x40) (decorator_piece word) fourth (λ e. decorator_good (decorator_of word) (length word))
-    (by_test (is_printable b) (sign_piece b rest) foreign (λ e. sign_good b rest) tt))))
+    let fourth : Lexeme = if is_printable b then sign_lexeme b rest else foreign in
+    let third : Lexeme = if nat_eq b 0x40 then decorator_lexeme word else fourth in
+    let second : Lexeme = if is_quote b then string_lexeme (quoted b rest) else third in
+    let first : Lexeme = if is_ascii_digit b then literal_lexeme digits else second in
+    by_test (begins_name b) (name_lexeme (take_while goes_on_name (b ∷ rest))) first (name_good b rest)
+    (by_test (is_ascii_digit b) (literal_lexeme digits) second (λ e. literal_good digits)
+    (by_test (is_quote b) (string_lexeme (quoted b rest)) third (λ e. string_good (quoted b rest).ending (quoted b rest) (quoted_good b rest))
+    (by_test (nat_eq b 0x40) (decorator_lexeme word) fourth (λ e. decorator_good (decorator_of word) (length word))
+    (by_test (is_printable b) (sign_lexeme b rest) foreign (λ e. sign_good b rest) tt))))
 
 -- ---- lines
 
@@ -178,9 +178,9 @@ tokens_good : (line column covered : ℕ) (bytes : List ℕ) → Goods (tokens_i
 tokens_good line column covered [] = tt
 tokens_good line column (suc covered) (b ∷ rest) = tokens_good line (column + 1) covered rest
 tokens_good line column zero (b ∷ rest) =
-    let more : List Placed = put (at line column) (piece_of (b ∷ rest)).token ∷ tokens_in line (column + 1) ((piece_of (b ∷ rest)).width - 1) rest in
+    let more : List Placed = put (at line column) (lexeme_of (b ∷ rest)).token ∷ tokens_in line (column + 1) ((lexeme_of (b ∷ rest)).width - 1) rest in
     either (nat_eq b 0x20) (tokens_in line (column + 1) zero rest) (if nat_eq b 0x23 then [] else more) (tokens_good line (column + 1) zero rest)
-    (either (nat_eq b 0x23) [] more tt (piece_good (b ∷ rest), tokens_good line (column + 1) ((piece_of (b ∷ rest)).width - 1) rest))
+    (either (nat_eq b 0x23) [] more tt (piece_good (b ∷ rest), tokens_good line (column + 1) ((lexeme_of (b ∷ rest)).width - 1) rest))
 
 cut_good : (ps : List Placed) → Goods ps → Goods (up_to_fault ps)
 cut_good [] h = tt

@@ -7,8 +7,8 @@ use Rattle.std.specs.List.{prefix_len}
 use Rattle.std.specs.Char.{is_ascii_digit}
 use Rattle.std.proofs.Math.Seq.{take-append_seam}
 use Rattle.text_lexer.specs.Bytes.{goes_on_name, begins_name}
-use Rattle.text_lexer.specs.Piece.{piece_of, name_piece, name_token, literal_piece, literal, decimal as read_decimal}
-use Rattle.text_lexer.specs.declared.piece.Piece.{Piece}
+use Rattle.text_lexer.specs.Lexeme.{lexeme_of, name_lexeme, name_token, literal_lexeme, literal, decimal as read_decimal}
+use Rattle.text_lexer.specs.declared.lexeme.Lexeme.{Lexeme}
 use Rattle.text_lexer.specs.declared.token.Literal.TheVariants.{Value}
 use Rattle.text_lexer.specs.declared.token.Token.{Token}
 use Rattle.text_lexer.specs.declared.token.Token.TheVariants as t
@@ -55,7 +55,7 @@ weaker x us r = record { line = r.line; goes = λ rest free. r.goes rest tt }
 -- ---- one piece
 
 -- a piece of so many bytes
-piece_reads : (b : ℕ) (more rest : List ℕ) (piece : Piece) → eqb b 0x20 ≡ false → eqb b 0x23 ≡ false → piece_of (b ∷ (more ++ rest)) ≡ piece → piece.width ≡ suc (length more) → bare 0 (b ∷ (more ++ rest)) ≡ piece.token ∷ bare 0 rest
+piece_reads : (b : ℕ) (more rest : List ℕ) (piece : Lexeme) → eqb b 0x20 ≡ false → eqb b 0x23 ≡ false → lexeme_of (b ∷ (more ++ rest)) ≡ piece → piece.width ≡ suc (length more) → bare 0 (b ∷ (more ++ rest)) ≡ piece.token ∷ bare 0 rest
 piece_reads b more rest piece blank comment is width =
     let w : piece.width - 1 ≡ length more = omega arith in
     rw (blank, comment, is) (ap (λ (n : ℕ). piece.token ∷ bare n (more ++ rest)) w ∙ ap (λ (ts : List Token). piece.token ∷ ts) (skip more rest))
@@ -97,11 +97,11 @@ other : {A : Type 0} (q : Bool) (x y : A) → q ≡ false → cond q x y ≡ y
 other true x y e = absurd (grind (arith, e))
 other false x y e = refl
 
-piece_name : (b : ℕ) (r : List ℕ) → begins_name b ≡ true → piece_of (b ∷ r) ≡ name_piece (take_while goes_on_name (b ∷ r))
-piece_name b r is = chosen (begins_name b) (name_piece (take_while goes_on_name (b ∷ r))) _ is
+piece_name : (b : ℕ) (r : List ℕ) → begins_name b ≡ true → lexeme_of (b ∷ r) ≡ name_lexeme (take_while goes_on_name (b ∷ r))
+piece_name b r is = chosen (begins_name b) (name_lexeme (take_while goes_on_name (b ∷ r))) _ is
 
-piece_digits : (b : ℕ) (r : List ℕ) → begins_name b ≡ false → is_ascii_digit b ≡ true → piece_of (b ∷ r) ≡ literal_piece (take_while is_ascii_digit (b ∷ r))
-piece_digits b r nameless is = other (begins_name b) (name_piece (take_while goes_on_name (b ∷ r))) _ nameless ∙ chosen (is_ascii_digit b) (literal_piece (take_while is_ascii_digit (b ∷ r))) _ is
+piece_digits : (b : ℕ) (r : List ℕ) → begins_name b ≡ false → is_ascii_digit b ≡ true → lexeme_of (b ∷ r) ≡ literal_lexeme (take_while is_ascii_digit (b ∷ r))
+piece_digits b r nameless is = other (begins_name b) (name_lexeme (take_while goes_on_name (b ∷ r))) _ nameless ∙ chosen (is_ascii_digit b) (literal_lexeme (take_while is_ascii_digit (b ∷ r))) _ is
 
 -- a name, or a word
 pub named : (x : List ℕ) → BeginsName x → AreNameBytes x → Reads Free x (name_token x ∷ [])
@@ -111,8 +111,8 @@ named (b ∷ more) begins bytes =
     record {
       line = name_line (b ∷ more) bytes;
       goes = λ rest free.
-          piece_reads b more rest (name_piece (b ∷ more)) (grind (arith, nat_tests, is)) (grind (arith, nat_tests, is))
-          (piece_name b (more ++ rest) is ∙ ap name_piece (taken goes_on_name (b ∷ more) rest (name_stops rest free) (go_names (b ∷ more) bytes))) refl;
+          piece_reads b more rest (name_lexeme (b ∷ more)) (grind (arith, nat_tests, is)) (grind (arith, nat_tests, is))
+          (piece_name b (more ++ rest) is ∙ ap name_lexeme (taken goes_on_name (b ∷ more) rest (name_stops rest free) (go_names (b ∷ more) bytes))) refl;
     }
 
 name_is : (x : List ℕ) → IsName x → name_token x ≡ t.Name x
@@ -161,7 +161,7 @@ digits_line (b ∷ x) h =
     let go : is_ascii_digit b ≡ true = h.0 in
     (grind (arith, nat_tests, go), digits_line x h.1)
 
-digits_read : (n : ℕ) (ds : List ℕ) → IsNumber n ds → (0 < length ds) → literal_piece ds ≡ record { token = t.Int (Value n); width = length ds } → Reads Free ds (t.Int (Value n) ∷ [])
+digits_read : (n : ℕ) (ds : List ℕ) → IsNumber n ds → (0 < length ds) → literal_lexeme ds ≡ record { token = t.Int (Value n); width = length ds } → Reads Free ds (t.Int (Value n) ∷ [])
 digits_read n [] is some piece = absurd (omega arith)
 digits_read n (d ∷ ds) is some piece =
     let go : is_ascii_digit d ≡ true = is.digits.0 in
@@ -170,13 +170,13 @@ digits_read n (d ∷ ds) is some piece =
       line = digits_line (d ∷ ds) is.digits;
       goes = λ rest free.
           piece_reads d ds rest (record { token = t.Int (Value n); width = length (d ∷ ds) }) (grind (arith, nat_tests, go)) (grind (arith, nat_tests, go))
-          (piece_digits d (ds ++ rest) nameless go ∙ ap literal_piece (taken is_ascii_digit (d ∷ ds) rest (digit_stops rest free) is.digits) ∙ piece) refl;
+          (piece_digits d (ds ++ rest) nameless go ∙ ap literal_lexeme (taken is_ascii_digit (d ∷ ds) rest (digit_stops rest free) is.digits) ∙ piece) refl;
     }
 
 literal_is : (n : ℕ) (ds : List ℕ) → read_decimal 0 ds ≡ n → n < 0x80000000 → literal ds ≡ Value n
 literal_is n ds e small = rw (e, lt-ltb n 0x80000000 small) refl
 
-digits_piece_is : (n : ℕ) (ds : List ℕ) → IsNumber n ds → n < 0x80000000 → 48 < get_or ds 0 0 → literal_piece ds ≡ record { token = t.Int (Value n); width = length ds }
+digits_piece_is : (n : ℕ) (ds : List ℕ) → IsNumber n ds → n < 0x80000000 → 48 < get_or ds 0 0 → literal_lexeme ds ≡ record { token = t.Int (Value n); width = length ds }
 digits_piece_is n [] is small first = absurd (omega arith)
 digits_piece_is n (d ∷ ds) is small first =
     let ne : eqb d 0x30 ≡ false = ne_eqb d 0x30 (λ e. omega (arith, e, first)) in
@@ -196,10 +196,10 @@ number_reads (suc n) small =
 
 -- ---- signs
 
-abbrev of_sign : Sign → Piece
+abbrev of_sign : Sign → Lexeme
 of_sign sign = record { token = t.Sign sign; width = 1 }
 
-abbrev first_of : Piece → List ℕ → List Token
+abbrev first_of : Lexeme → List ℕ → List Token
 first_of piece rest = piece.token ∷ bare (piece.width - 1) rest
 
 lone_by : (sign : Sign) (q : Bool) (rest : List ℕ) → first_of (cond q (of_sign sign) (of_sign sign)) rest ≡ t.Sign sign ∷ bare 0 rest

@@ -2,7 +2,7 @@
 use Rattle.std.proofs.Common.{◌≡◌, ℕ, zero, suc, ◌+◌, ◌-◌, List, [], ◌∷◌, ◌++◌, map, flat_map, false, Option, Some, None, codes, refl, sym, ap, ◌∙◌, append_assoc, append-nil, subst}
 use Rattle.text_phrases.specs.Sequence.{spell_all}
 use Rattle.exo_tree.specs.Tree.{Condition, Block, Param, Procedure, Program}
-use Rattle.text_lexer.specs.Piece.{decorator_piece}
+use Rattle.text_lexer.specs.Lexeme.{decorator_lexeme}
 use Rattle.text_lexer.specs.Layout.{token_of, lines, layout, end_place, is_import}
 use Rattle.text_lexer.specs.declared.place.Place.{Place}
 use Rattle.text_lexer.specs.declared.token.Token.{Token}
@@ -48,7 +48,7 @@ marker_tokens None = t.Decorator d.Procedure ∷ []
 marker_tokens (Some template) = t.Decorator d.Instruction ∷ t.Sign s.Open ∷ t.Str template ∷ t.Sign s.Close ∷ []
 
 abbrev decorator_of : List ℕ → List ℕ → List Token
-decorator_of x rest = (decorator_piece x).token ∷ bare ((decorator_piece x).width - 1) rest
+decorator_of x rest = (decorator_lexeme x).token ∷ bare ((decorator_lexeme x).width - 1) rest
 
 proc_reads : Reads Free (codes "@proc") (t.Decorator d.Procedure ∷ [])
 proc_reads = record {

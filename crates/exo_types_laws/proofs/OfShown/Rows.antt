@@ -2,7 +2,7 @@
 use Rattle.std.proofs.Common.{◌≡◌, ℕ, zero, suc, ◌+◌, ◌-◌, ◌≤◌, List, [], ◌∷◌, ◌++◌, map, replicate, true, false, nat_eq, nat_lt, eqb, ltb, length, refl, sym, ap, ◌∙◌, append_assoc, append-nil, codes, arith, subst, lt-ltb}
 use Rattle.std.proofs.lemmas.List.{map-append}
 use Rattle.std.proofs.lemmas.Bool.Decides.{nat_tests}
-use Rattle.text_lexer.specs.Piece.{piece_of}
+use Rattle.text_lexer.specs.Lexeme.{lexeme_of}
 use Rattle.text_lexer.specs.Layout.{at, put, token_of, lines, longer, is_skipped_return, tokens_in, line_tokens, is_fault, is_foreign, up_to_fault, brackets_behind, brackets_after, is_import, innermost, still_open, blocks_at, indentation, line_end, with_end, begun, laid, layout, Laid}
 use Rattle.text_lexer.specs.declared.place.Place.{Place}
 use Rattle.text_lexer.specs.declared.place.Placed.{Placed}
@@ -150,10 +150,10 @@ placing_tokens line column text tokens row =
 first_placed : (line column : ℕ) (text : List ℕ) (tokens : List Token) → BeginsRow text → map token_of (tokens_in line column 0 text) ≡ tokens → Placing line column (tokens_in line column 0 text) tokens
 first_placed line column [] tokens begins e = absurd begins
 first_placed line column (b ∷ rest) tokens begins e =
-    let is : tokens_in line column 0 (b ∷ rest) ≡ put (at line column) (piece_of (b ∷ rest)).token ∷ tokens_in line (column + 1) ((piece_of (b ∷ rest)).width - 1) rest = rw (begins.0, begins.1) refl in
+    let is : tokens_in line column 0 (b ∷ rest) ≡ put (at line column) (lexeme_of (b ∷ rest)).token ∷ tokens_in line (column + 1) ((lexeme_of (b ∷ rest)).width - 1) rest = rw (begins.0, begins.1) refl in
     record {
-      token = (piece_of (b ∷ rest)).token;
-      more = tokens_in line (column + 1) ((piece_of (b ∷ rest)).width - 1) rest;
+      token = (lexeme_of (b ∷ rest)).token;
+      more = tokens_in line (column + 1) ((lexeme_of (b ∷ rest)).width - 1) rest;
       is = is;
       all = sym e ∙ ap (map token_of) is;
     }

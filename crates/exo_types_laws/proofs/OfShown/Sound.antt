@@ -5,8 +5,8 @@ use Rattle.text_lexer.specs.declared.token.Token.{Token}
 use Rattle.text_lexer.specs.declared.token.Token.TheVariants as t
 use Rattle.text_lexer.specs.declared.token.Sign.TheVariants as s
 use Rattle.text_lexer.specs.declared.token.Word.TheVariants as w
-use Rattle.text_expressions.specs.declared.source.Operator.{Operator}
-use Rattle.text_expressions.specs.declared.source.Operator.TheVariants as o
+use Rattle.text_expressions.specs.declared.source.Infix.{Infix}
+use Rattle.text_expressions.specs.declared.source.Infix.TheVariants as o
 use Rattle.text_expressions.specs.Expression.{Tree, number, truth, variable, access, field, stride, relu, select, negative, parens, binary, Trees, end, next, sign, spelling, spelling_list, spelling_more}
 use Rattle.exo_types_laws.proofs.OfShown.Rows.{IsSound, open_after}
 
@@ -53,7 +53,7 @@ record IsPlain (token : Token) : Type 0 where
   sound : is_fault token ≡ false
   same : (n : ℕ) → brackets_behind n token ≡ n
 
-sign_is : (operator : Operator) → IsPlain (sign operator)
+sign_is : (operator : Infix) → IsPlain (sign operator)
 sign_is o.Or = record { sound = refl; same = λ n. refl }
 sign_is o.And = record { sound = refl; same = λ n. refl }
 sign_is o.Lt = record { sound = refl; same = λ n. refl }

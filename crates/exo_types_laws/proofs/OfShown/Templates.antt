@@ -4,7 +4,7 @@ use Rattle.std.proofs.lemmas.Bool.Decides.{nat_tests}
 use Rattle.std.proofs.lemmas.Str.{chars-IsAscii, encode_ascii}
 use Rattle.text_lexer.specs.Bytes.{is_printable}
 use Rattle.text_lexer.specs.Quoted.{quoted as read, behind}
-use Rattle.text_lexer.specs.Piece.{string_piece}
+use Rattle.text_lexer.specs.Lexeme.{string_lexeme}
 use Rattle.text_lexer.specs.declared.quoted.Quoted.{Quoted}
 use Rattle.text_lexer.specs.declared.quoted.Ending.TheVariants.{Closed}
 use Rattle.text_lexer.specs.declared.token.Token.{Token}
@@ -74,7 +74,7 @@ escaped_line [] h = tt
 escaped_line (c ∷ x) h = one_line_append (escaped c) (flat_map escaped x) (subst OneLine (sym (spelled_is c h.0)) (line_by c (eqb c 10) (eqb c 34) (eqb c 92) refl h.0)) (escaped_line x h.1)
 
 abbrev first_of : Quoted → List ℕ → List Token
-first_of q rest = (string_piece q).token ∷ bare ((string_piece q).width - 1) rest
+first_of q rest = (string_lexeme q).token ∷ bare ((string_lexeme q).width - 1) rest
 
 quoted_goes : (x rest : List ℕ) → Each IsTemplateByte x → bare 0 (0x22 ∷ (flat_map escaped x ++ (0x22 ∷ rest))) ≡ t.Str x ∷ bare 0 rest
 quoted_goes x rest h =

@@ -5,7 +5,7 @@ use Rattle.exo_tree.specs.Tree.{Size, I32, Binder, Lit, Var, Const, Assign, For,
 use Rattle.exo_tree.specs.Tree.{ControlParam, Procedure, MemoryKind, Program}
 use Rattle.exo_meaning.specs.Units.{plainly, is_control, is_condition, field_kind, IsUnit}
 use Rattle.text_expressions.specs.Expression.{Tree, variable, binary}
-use Rattle.text_expressions.specs.declared.source.Operator.TheVariants.{Add, Lt}
+use Rattle.text_expressions.specs.declared.source.Infix.TheVariants.{Add, Lt}
 use Rattle.rules_names.specs.Resolved.{control_of, condition_of}
 use Rattle.exo_tree.specs.Context.{Here, InLoop}
 use Rattle.exo_tree.specs.Places.{Main, Path, Opened}

@@ -8,7 +8,8 @@ use Rattle.exo_tree.specs.Tree.{Statement, Assign, Reduce, Config, Pass, If, For
 use Rattle.exo_tree.specs.Tree.{Block, end, next}
 use Rattle.exo_tree.specs.Tree.{ParamKind, ControlParam, TensorParam, WindowParam, Param, Procedure}
 use Rattle.exo_tree.specs.Tree.{Program}
-use Rattle.exo_meaning.specs.Renaming.{Renaming, re_controls, re_condition, re_binder, re_block}
+use Rattle.exo_meaning.specs.Renaming.{Renaming, re_condition, re_block}
+pub use Rattle.exo_meaning.specs.Renaming.{re_kind, re_param}
 use Rattle.exo_meaning.specs.Calls.{Callee}
 use Rattle.exo_meaning.specs.Run.{program_world}
 use Rattle.exo_meaning.specs.Units.{IsUnit}
@@ -18,17 +19,6 @@ use Rattle.exo_types.specs.UnitRules.{Above, nothing_above, signatures, after_it
 use Rattle.exo_types.specs.UnitRules.{item_fault, unit_fault, is_given}
 use Rattle.exo_types_laws.specs.Shown.Written.{written}
 use Rattle.exo_types_laws.specs.Shown.Writable.{IsWritable}
-
--- ---- other ids
-
-module _ (r : Renaming) where
-  abbrev pub re_kind : ParamKind → ParamKind
-  re_kind (ControlParam kind) = ControlParam kind
-  re_kind (TensorParam cell dims memory) = TensorParam cell (re_controls r dims) memory
-  re_kind (WindowParam cell dims memory) = WindowParam cell (re_controls r dims) memory
-
-  abbrev pub re_param : Param → Param
-  re_param p = record { binder = re_binder r p.binder; kind = re_kind p.kind }
 
 -- ---- other numbers of procedures
 

@@ -1,7 +1,7 @@
 -- Names as the grammar has them.
 use Rattle.std.specs.Prelude.{◌≡◌, ℕ, true, false, List, [], ◌∷◌, None, codes, bytes_eq}
 use Rattle.text_lexer.specs.Bytes.{begins_name, goes_on_name}
-use Rattle.text_lexer.specs.Piece.{word_of}
+use Rattle.text_lexer.specs.Lexeme.{word_of}
 
 -- letters, digits and `_`
 abbrev pub AreNameBytes : List ℕ → Type 0

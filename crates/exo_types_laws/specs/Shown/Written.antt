@@ -11,7 +11,7 @@ use Rattle.exo_tree.specs.Tree.{Block, end, next, ParamKind, ControlParam, Tenso
 use Rattle.exo_tree.specs.Tree.{Param, ConfigField, Procedure, Program}
 use Rattle.exo_tree.specs.Named.{cell_word}
 use Rattle.text_lexer.specs.declared.token.Literal.TheVariants.{Value}
-use Rattle.text_expressions.specs.declared.source.Operator.TheVariants as o
+use Rattle.text_expressions.specs.declared.source.Infix.TheVariants as o
 use Rattle.text_expressions.specs.Expression.{Tree, number, truth, variable, access, field, stride}
 use Rattle.text_expressions.specs.Expression.{relu, select, negative, parens, binary, trees}
 use Rattle.exo_reader.specs.Source as source

@@ -7,6 +7,7 @@ use Rattle.exo_tree.specs.Tree.{Config, Block, end, next, Procedure, True}
 use Rattle.exo_tree.specs.Renaming.{re_control, re_controls, re_condition, re_block}
 use Rattle.exo_tree.specs.Renaming.{binders, fresh_id}
 use Rattle.exo_meaning.specs.Run.{unit_world}
+use Rattle.exo_tree.specs.Renaming as tree
 use Rattle.exo_meaning.specs.Renaming.{Renaming}
 use Rattle.exo_meaning.specs.Unseen.{in_control, in_controls, in_condition, in_block as mentions}
 use Rattle.exo_meaning.proofs.Frame.{or_parts}
@@ -19,7 +20,7 @@ use Rattle.inplace_laws.specs.Above.{size}
 use Rattle.inplace_laws.specs.Inline.{MayInline}
 use Rattle.match_laws.specs.RenamedCallee.{re_kind, re_param, re_params, re_conditions}
 use Rattle.match_laws.specs.RenamedCallee.{re_procedure}
-use Rattle.match_laws.specs.Inline.InlineRule.{renumbered_kind, renumbered_param, renumbered, param_ids}
+use Rattle.match_laws.specs.Inline.InlineRule.{renumbered, param_ids}
 use Rattle.match_laws.specs.Inline.InlineConditions.{IsInlinable, StandThere}
 use Rattle.match_laws.specs.Inline.FreshCallee.{kind_mentions, params_mention, conditions_mention}
 use Rattle.match_laws.specs.Inline.FreshCallee.{procedure_mentions, ids_of, is_new, FreshCallee}
@@ -67,7 +68,7 @@ module _ (hidden : ℕ → Bool) (r : Renaming) (to : ℕ → ℕ)
       ap₂ ◌∷◌ (control_same e p.0) (controls_same es p.1)
 
   kind_same : (kind : ParamKind) → kind_mentions hidden kind ≡ false
-      → renumbered_kind to kind ≡ re_kind r kind
+      → tree.re_kind to kind ≡ re_kind r kind
   kind_same (ControlParam kind) h = refl
   kind_same (TensorParam cell dims memory) h =
       ap (λ ds. TensorParam cell ds memory) (controls_same dims h)
@@ -75,14 +76,14 @@ module _ (hidden : ℕ → Bool) (r : Renaming) (to : ℕ → ℕ)
       ap (λ ds. WindowParam cell ds memory) (controls_same dims h)
 
   param_same : (p : Param) → hidden p.binder.id ≡ false → kind_mentions hidden p.kind ≡ false
-      → renumbered_param to p ≡ re_param r p
+      → tree.re_param to p ≡ re_param r p
   param_same p h k =
       ap₂ (λ (i : ℕ) (kind : ParamKind).
       record { binder = record { id = i; name = p.binder.name }; kind = kind })
       (agree p.binder.id h) (kind_same p.kind k)
 
   params_same : (ps : List Param) → params_mention hidden ps ≡ false
-      → map (renumbered_param to) ps ≡ re_params r ps
+      → map (tree.re_param to) ps ≡ re_params r ps
   params_same [] h = refl
   params_same (p ∷ ps) h =
       let a = or_parts (hidden p.binder.id) (kind_mentions hidden p.kind

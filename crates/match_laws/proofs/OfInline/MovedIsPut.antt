@@ -7,6 +7,7 @@ use Rattle.exo_tree.specs.Tree.{Condition, True, False, Flag, FieldFlag, Lt, Le,
 use Rattle.exo_tree.specs.Tree.{Or}
 use Rattle.exo_tree.specs.Tree.{Argument, ControlArg, ConditionArg, Whole, Window, ParamKind}
 use Rattle.exo_tree.specs.Tree.{ControlParam, TensorParam, WindowParam, Param, Block, Procedure}
+use Rattle.exo_tree.specs.Passed.{passed_for}
 use Rattle.exo_meaning.specs.Inputs.{is_buffer_of}
 use Rattle.affine_forms.specs.Forms.{Reading}
 use Rattle.affine_forms.proofs.Values.{and_parts}
@@ -16,7 +17,7 @@ use Rattle.match_laws.specs.Moved.{Moving, both, one, moved, moved_condition}
 use Rattle.match_laws.specs.Moved.{agree, conditions_agree}
 use Rattle.match_laws.specs.Pairs.{Pair, Numbers, Truths, Binders, Own, Access, Unlike}
 use Rattle.match_laws.specs.Matched.{to, number_in, truth_in, stride_in, variable_for, stride_for}
-use Rattle.match_laws.specs.Matched.{given_to, all_pairs}
+use Rattle.match_laws.specs.Matched.{all_pairs}
 use Rattle.match_laws.specs.MatchedFits.{Fits, given_names}
 use Rattle.match_laws.proofs.MatchedFits.{matched_fits}
 use Rattle.exo_meaning.specs.Orders.{Each}
@@ -194,7 +195,7 @@ later_is x (WindowParam cell dims memory) a put y o h is =
 
 module _ (at : Reading) (theirs : Names) (block : Block) (q : Procedure) where
   given_is : (ps : List Param) (args : List Argument) (x : ℕ) → are_of_kinds ps args ≡ true
-      → GivenIs (puts ps args) x (given_to at theirs block q ps args x)
+      → GivenIs (puts ps args) x (passed_for ps args x)
   given_is [] args x s = (tt, tt, λ k. tt)
   given_is (p ∷ ps) [] x s = (tt, tt, λ k. tt)
   given_is (p ∷ ps) (a ∷ args) x s =
@@ -202,13 +203,13 @@ module _ (at : Reading) (theirs : Names) (block : Block) (q : Procedure) where
       go (p.binder.id == x) refl fit.0 (given_is ps args x fit.1)
     where
       go : (t : Bool) → (p.binder.id == x) ≡ t → is_of_kind p.kind a ≡ true
-          → GivenIs (puts ps args) x (given_to at theirs block q ps args x)
+          → GivenIs (puts ps args) x (passed_for ps args x)
           → GivenIs (with_put p.binder.id p.kind a (puts ps args)) x
-          (if t then Some a else given_to at theirs block q ps args x)
+          (if t then Some a else passed_for ps args x)
       go true e k rest =
           first_is p.binder.id p.kind a (puts ps args) x k (same_test p.binder.id x true e)
       go false e k rest =
-          later_is p.binder.id p.kind a (puts ps args) x (given_to at theirs block q ps args x)
+          later_is p.binder.id p.kind a (puts ps args) x (passed_for ps args x)
           (same_test p.binder.id x false e) rest
 
   module _ (args : List Argument) (own : HasBlockIds at theirs block q)
@@ -217,7 +218,7 @@ module _ (at : Reading) (theirs : Names) (block : Block) (q : Procedure) where
     put = puts q.params args
 
     abbrev given : ℕ → Option Argument
-    given = given_to at theirs block q q.params args
+    given = passed_for q.params args
 
     keeps : Keeps (λ x. is_buffer_of x q.params) put
     keeps = puts_keep (λ x. is_buffer_of x q.params) q.params args (λ x k. k)

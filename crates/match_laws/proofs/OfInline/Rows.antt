@@ -9,9 +9,8 @@ use Rattle.exo_tree.specs.Tree.{Procedure}
 use Rattle.exo_tree.specs.Places.{Main, Path}
 use Rattle.match_laws.specs.Simplify.SimplifiedBlocks.{simplified_block}
 use Rattle.match_laws.proofs.Instances.{own}
-use Rattle.match_laws.specs.Inline.Pieces.{place_of}
 use Rattle.match_laws.specs.Inline.InlineRule.{inline_piece, inline_draft}
-use Rattle.match_laws.specs.Inline.InlineWindowRule.{window_piece, window_draft, window_shifts}
+use Rattle.match_laws.specs.Inline.InlineWindowRule.{window_piece, window_draft}
 
 abbrev pub lit : ℕ → Control
 lit n = Lit (pos n)
@@ -175,8 +174,3 @@ row_is_removed : window_draft on_row
     (next (View (binder 4) 0 (At row ∷ Span (Add (lit 0) (lit 3)) (Add (lit 0) (lit 4)) ∷ []))
     end))
 row_is_removed = refl
-
--- the loop behind the view moves up
-loop_moves_up : window_shifts on_part
-    ≡ record { from = place_of 1; count = 1; whole = true; to = Some (place_of 0) } ∷ []
-loop_moves_up = refl

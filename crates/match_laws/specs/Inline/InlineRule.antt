@@ -2,19 +2,17 @@
 -- arguments in the place of the parameters.
 use Rattle.std.specs.Prelude.{◌≡◌, ℕ, Bool, true, ◌&&◌, if◌then◌else◌, List, [], ◌∷◌, ◌++◌, map}
 use Rattle.std.specs.Prelude.{Option, Some, None, slice_get}
-use Rattle.exo_tree.specs.Tree.{Kind, Argument, ControlArg, ConditionArg, Whole, Window, ParamKind}
-use Rattle.exo_tree.specs.Tree.{ControlParam, TensorParam, WindowParam, Param, Statement, Call}
+use Rattle.exo_tree.specs.Tree.{Kind, Argument, ControlArg, ConditionArg, Whole, Window}
+use Rattle.exo_tree.specs.Tree.{Param, Statement, Call}
 use Rattle.exo_tree.specs.Tree.{Block, end, next, Procedure}
 use Rattle.exo_tree.specs.Context.{fill}
-use Rattle.exo_tree.specs.Places.{Path, Opened, opened}
-use Rattle.exo_tree.specs.Renaming.{re_binder, re_controls, re_condition, re_block, binders}
-use Rattle.exo_tree.specs.Renaming.{fresh_id}
+use Rattle.exo_tree.specs.Places.{Path, Piece, Opened, opened}
+use Rattle.exo_tree.specs.Renaming.{re_condition, re_block, re_param, binders, fresh_id}
 use Rattle.exo_meaning.specs.Run.{World, unit_world}
 use Rattle.exo_meaning.specs.Inputs.{Refines}
 use Rattle.meaning_laws.specs.Facts.{is_plain_condition}
 use Rattle.meaning_laws.specs.Substitute.{is_plain}
 use Rattle.inplace_laws.specs.Inline.{inlined, MayInline}
-use Rattle.match_laws.specs.Inline.Pieces.{Piece, Shift}
 
 -- ---- the call
 
@@ -59,18 +57,9 @@ inline_piece p at =
 -- ---- the callee with other ids
 
 module _ (to : ℕ → ℕ) where
-  abbrev pub renumbered_kind : ParamKind → ParamKind
-  renumbered_kind (ControlParam kind) = ControlParam kind
-  renumbered_kind (TensorParam cell dims memory) = TensorParam cell (re_controls to dims) memory
-  renumbered_kind (WindowParam cell dims memory) = WindowParam cell (re_controls to dims) memory
-
-  abbrev pub renumbered_param : Param → Param
-  renumbered_param p =
-      record { binder = re_binder to p.binder; kind = renumbered_kind p.kind }
-
   abbrev pub renumbered : Procedure → Procedure
   renumbered q = record q {
-    params = map renumbered_param q.params;
+    params = map (re_param to) q.params;
     asserts = map (re_condition to) q.asserts;
     body = re_block to q.body;
   }
@@ -97,10 +86,6 @@ inline_draft ps base piece =
       | None ↦ None
       | Some c ↦ inlined_call base c.args (slice_get ps c.callee)
     ]
-
--- the call goes nowhere
-abbrev pub inline_shifts : List Shift
-inline_shifts = []
 
 -- ---- the law
 

@@ -1,10 +1,10 @@
 -- The rewrite inline_window, on plain trees: a view is removed, and its uses are composed onto its
 -- buffer.
-use Rattle.std.specs.Prelude.{◌≡◌, ℕ, ◌==◌, true, false, List, [], ◌+◌, Option, Some, None}
+use Rattle.std.specs.Prelude.{◌≡◌, ℕ, ◌==◌, true, false, List, [], ◌+◌, length, Option, Some, None}
 use Rattle.exo_tree.specs.Tree.{Binder, Kind, Coord, Argument, Window, Statement, View, Block, end}
-use Rattle.exo_tree.specs.Tree.{next, Procedure}
+use Rattle.exo_tree.specs.Tree.{next, statements, Procedure}
 use Rattle.exo_tree.specs.Context.{Context, fill, rest_of}
-use Rattle.exo_tree.specs.Places.{Path, Opened, opened}
+use Rattle.exo_tree.specs.Places.{Path, Piece, Opened, opened}
 use Rattle.exo_meaning.specs.Run.{unit_world}
 use Rattle.exo_meaning.specs.Inputs.{Refines}
 use Rattle.exo_meaning.specs.Unseen.{in_block as mentions}
@@ -12,7 +12,6 @@ use Rattle.meaning_laws.specs.Copies.{IsFree}
 use Rattle.meaning_laws.specs.Scoped.{has_binder}
 use Rattle.inplace_laws.specs.Windows.{in_block as with_window, are_plain, coords_have}
 use Rattle.inplace_laws.specs.InlineWindow.{is_name}
-use Rattle.match_laws.specs.Inline.Pieces.{Piece, Shift, moves_to, statements}
 
 pub record Viewed : Type 0 where
   pub binder : Binder
@@ -39,7 +38,7 @@ window_piece p at =
       | None ↦ None
       | Some o ↦ elim (viewed_in o.piece) [
         | None ↦ None
-        | Some v ↦ Some (record { path = at; count = 1 + statements (rest_of o.around) })
+        | Some v ↦ Some (record { path = at; count = 1 + length (statements (rest_of o.around)) })
       ]
     ]
 
@@ -52,10 +51,6 @@ window_draft piece =
       | None ↦ None
       | Some v ↦ Some (with_window v.binder.id (as_window v) (behind_first piece))
     ]
-
--- what follows the view moves up by one
-abbrev pub window_shifts : Block → List Shift
-window_shifts piece = moves_to 1 (statements (behind_first piece)) 0
 
 -- ---- the law
 

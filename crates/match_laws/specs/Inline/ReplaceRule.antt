@@ -4,7 +4,7 @@ use Rattle.std.specs.Prelude.{◌≡◌, ℕ, Bool, if◌then◌else◌, List, [
 use Rattle.std.specs.Prelude.{Some, None}
 use Rattle.exo_tree.specs.Tree.{Kind, Argument, Call, Block, end, next, Procedure}
 use Rattle.exo_tree.specs.Context.{fill}
-use Rattle.exo_tree.specs.Places.{Path, Opened, opened}
+use Rattle.exo_tree.specs.Places.{Path, Piece, Opened, opened}
 use Rattle.exo_meaning.specs.State.{State}
 use Rattle.exo_meaning.specs.Run.{World, unit_world}
 use Rattle.exo_meaning.specs.Inputs.{IsAdmissible, Refines}
@@ -15,7 +15,6 @@ use Rattle.inplace_laws.specs.Inline.{inlined, MayInline}
 use Rattle.match_laws.specs.Names.{Names}
 use Rattle.match_laws.specs.Matched.{Arguments, NoMatch, Undetermined, matched}
 use Rattle.match_laws.specs.Alike.{nameless}
-use Rattle.match_laws.specs.Inline.Pieces.{Piece, Shift}
 use Rattle.match_laws.specs.Inline.Known.{Sees, ReadAlong}
 use Rattle.match_laws.specs.Inline.MatchLaw.{MayMatch}
 
@@ -55,10 +54,6 @@ module _ (at : Reading) (theirs : Names) (q : Procedure) (k : ℕ) where
         | NoMatch path ↦ None
         | Undetermined x ↦ None
       ]
-
--- the statements of the piece go nowhere
-abbrev pub replace_shifts : List Shift
-replace_shifts = []
 
 -- ---- the law
 

@@ -12,7 +12,7 @@ ghost use Rattle.piece_modes.specs.Strides.Table.{AreFirst, seen_rows, word_at};
 ghost use Rattle.piece_modes.specs.Strides.PlainTable.{rows, table_rows};
 
 use crate::strides::expressions::controls_use;
-use crate::strides::walk::{Above, block_sees, body_sees};
+use crate::strides::walk::{CallableStrides, block_sees, body_sees};
 use exo_modes::{Alias, root};
 use exo_tree::{Block, Id, ParamKind, Params, Proc, ProcId, Unit};
 use std::alloc::{AllocError, Global};
@@ -51,7 +51,12 @@ fn params_see(aliases: &[Alias], y: u32, params: &Params) -> bool
 }
 
 /// Whether a procedure looks at strides of its parameter `y`, its assertions left out.
-fn procedure_sees(alloc: Global, above: &Above, y: u32, p: &Proc) -> Result<bool, AllocError>
+fn procedure_sees(
+    alloc: Global,
+    above: &CallableStrides,
+    y: u32,
+    p: &Proc,
+) -> Result<bool, AllocError>
     requires { AreFirst (rows above.now.rows.now) (program above.now.unit.now) }
     ensures { IfOk result (λ r.
         r ≡ sees_strides (first_world (program above.now.unit.now) (length above.now.rows.now))
@@ -66,7 +71,7 @@ fn procedure_sees(alloc: Global, above: &Above, y: u32, p: &Proc) -> Result<bool
 }
 
 /// Of each parameter of a procedure that calls those above, whether it looks at its strides.
-fn row_of(alloc: Global, above: &Above, p: &Proc) -> Result<Vec<bool>, AllocError>
+fn row_of(alloc: Global, above: &CallableStrides, p: &Proc) -> Result<Vec<bool>, AllocError>
     requires { AreFirst (rows above.now.rows.now) (program above.now.unit.now) }
     ensures { IfOk result (λ r. r.items ≡ seen_of
         (sees_strides (first_world (program above.now.unit.now) (length above.now.rows.now))
@@ -102,7 +107,7 @@ impl StrideTable {
     {
         let procs = unit.procs.as_slice();
         for k in self.rows.len()..procs.len() {
-            let above = Above {
+            let above = CallableStrides {
                 unit,
                 rows: &self.rows,
             };
@@ -153,7 +158,7 @@ pub fn is_stride_used(
         (λ r. r ≡ is_used_in (program unit.now) (roots_in aliases.old.items) x.0 (block b.now)) }
     ensures kept { OnOk result (aliases.new.items ≡ aliases.old.items) }
 {
-    let above = Above {
+    let above = CallableStrides {
         unit,
         rows: &table.rows,
     };

@@ -22,7 +22,7 @@ use std::alloc::{AllocError, Global};
 /// The procedures that may be called: the first ones of a unit, as many as there are rows. A row
 /// says of each parameter whether its strides are seen.
 #[derive(Clone, Copy)]
-pub(crate) struct Above<'a> {
+pub(crate) struct CallableStrides<'a> {
     pub unit: &'a Unit,
     pub rows: &'a [Vec<bool>],
 }
@@ -48,7 +48,7 @@ fn is_passed(row: &[bool], aliases: &[Alias], y: u32, args: &[Arg]) -> bool
 }
 
 /// Whether a call passes part of buffer `y` to a parameter whose strides are seen.
-fn call_sees(above: &Above, aliases: &[Alias], y: u32, k: ProcId, args: &Args) -> bool
+fn call_sees(above: &CallableStrides, aliases: &[Alias], y: u32, k: ProcId, args: &Args) -> bool
     requires { AreFirst (rows above.now.rows.now) (program above.now.unit.now) }
     ensures { result ≡ call_sees (program above.now.unit.now) (length above.now.rows.now) k.0
         (roots_in aliases.now) y args.now }
@@ -62,7 +62,7 @@ fn call_sees(above: &Above, aliases: &[Alias], y: u32, k: ProcId, args: &Args) -
 /// Whether a statement looks at strides of buffer `y`; adds the name that it binds.
 #[cycle(walk)]
 fn statement_sees(
-    above: &Above,
+    above: &CallableStrides,
     aliases: &mut Vec<Alias>,
     y: u32,
     s: &Stmt,
@@ -116,7 +116,7 @@ fn statement_sees(
 /// Whether a block looks at strides of buffer `y`. Its names end with it.
 #[cycle(walk)]
 pub(crate) fn block_sees(
-    above: &Above,
+    above: &CallableStrides,
     aliases: &mut Vec<Alias>,
     y: u32,
     b: &Block,
@@ -139,7 +139,7 @@ pub(crate) fn block_sees(
 /// Whether the body of a procedure looks at strides of its parameter `y`.
 pub(crate) fn body_sees(
     alloc: Global,
-    above: &Above,
+    above: &CallableStrides,
     y: u32,
     body: &Block,
 ) -> Result<bool, AllocError>

@@ -1,5 +1,5 @@
 //! The sides of one sum or product of an expression, exchanged.
-ghost use Rattle.std.specs.Prelude.{◌≡◌, ◌+◌, if◌then◌else◌, true, MatchBool};
+ghost use Rattle.std.specs.Prelude.{◌≡◌};
 ghost use Rattle.exo_tree.specs.PlainDatum.{datum};
 ghost use Rattle.proc_laws.specs.Expression.Exchange.{is_sum, is_product};
 ghost use Rattle.proc_rewrites.specs.Expressions.PlainOperation.{plain_operation};
@@ -7,6 +7,7 @@ ghost use Rattle.proc_rewrites.specs.Expressions.Exchanging.{Exchanges};
 
 use exo_tree::DataExpr;
 use std::mem;
+use step_targets::is_here;
 
 /// Which operation has its sides exchanged.
 #[derive(Clone, Copy)]
@@ -33,21 +34,6 @@ impl Operation {
             Operation::Product => true,
         }
     }
-}
-
-/// Whether a match is the one that is looked for: `left` says how many are to be passed over.
-fn is_here(is_match: bool, left: &mut u32) -> bool
-    ensures { MatchBool result ((is_match ≡ true) × (left.old ≡ 0))
-        (left.old ≡ (if is_match then 1 else 0) + left.new) }
-{
-    if !is_match {
-        return false;
-    }
-    if *left == 0 {
-        return true;
-    }
-    *left -= 1;
-    false
 }
 
 /// Exchanges the sides of the match behind the first `left` ones in preorder, and says whether there is one. Where

@@ -2,7 +2,7 @@
 use Rattle.std.proofs.Common.{◌≡◌, None, pos, refl, codes}
 use Rattle.exo_tree.specs.Tree.{Lit}
 use Rattle.exo_meaning.specs.Orders.{Each}
-use Rattle.text_lexer.specs.Piece.{word_of}
+use Rattle.text_lexer.specs.Lexeme.{word_of}
 use Rattle.exo_types_laws.specs.Shown.Names.{IsName}
 use Rattle.exo_types_laws.specs.Shown.Named.{AreNamed}
 use Rattle.schedule_laws.specs.Operators.Instance.{unit, schedule, result, ScheduleInstance}

@@ -8,7 +8,7 @@ use Rattle.std.proofs.lemmas.Slice.Eq.{bytes_eq-Decides}
 use Rattle.std.specs.Str.{bytes_eq}
 use Rattle.std.specs.Fmt.{digits, digits_onto, digit_glyph}
 use Rattle.text_lexer.specs.Bytes.{goes_on_name}
-use Rattle.text_lexer.specs.Piece.{word_of}
+use Rattle.text_lexer.specs.Lexeme.{word_of}
 use Rattle.text_lexer.specs.declared.token.Word.{Word}
 use Rattle.text_lexer.specs.declared.token.Word.TheVariants as w
 use Rattle.exo_types_laws.specs.Shown.Names.{IsName, AreNameBytes, BeginsName, Each}

@@ -9,7 +9,7 @@ use Rattle.exo_types_laws.specs.Shown.Naming.{NamedUnitsAreWritable}
 use Rattle.schedule_text.specs.Tree as tree
 use Rattle.schedule_text.specs.Patterns.Names as pattern
 use Rattle.schedule_calls.specs.declared.operator.ChangeOperator.{ChangeOperator}
-use Rattle.schedule_calls.specs.declared.operator.Operator.{Operator}
+use Rattle.schedule_calls.specs.declared.operator.OperatorName.{OperatorName}
 use Rattle.schedule_calls.specs.Requests.{Change, Operation, Request, Apply, Search, Moved, Emit}
 use Rattle.schedule_calls.specs.Readings.{IsNameOf, AsksName, AsksNames, AsksChange, AsksOperation}
 use Rattle.schedule_calls.specs.Readings.{alone, with_control, with_word, mult_loops, specialize}
@@ -93,7 +93,7 @@ module _ (names : pattern.NamesAreOne) where
   names_in_change _ _ _ (divide_loop a b keys d h) = two_asked b d.outer d.inner h.names
   names_in_change _ _ _ (eliminate_dead_code keys keep h) = tt
 
-  names_asked : (o : Operator) (args : List tree.Argument) (operation : Operation)
+  names_asked : (o : OperatorName) (args : List tree.Argument) (operation : Operation)
       → AsksOperation o args operation → Takes IsName operation
   names_asked _ _ _ (at o a more asked change h k) = names_in_change o more change k
   names_asked _ _ _ (whole o) = tt

@@ -18,21 +18,14 @@ use Rattle.step_rules.specs.Rule.{Target}
 use Rattle.loop_laws.specs.DivideLoop as divide
 use Rattle.buffer_laws.specs.StageMem.{Staging}
 use Rattle.alloc_laws.specs.Bind.Binding.{Form, AnyRead, ReadOf, Sum, Difference, Product}
-use Rattle.schedule_calls.specs.Requests.{Tail, Guard, Cut, CutAndGuard, Perfect, Division}
-use Rattle.schedule_calls.specs.Requests.{Window}
+use Rattle.schedule_calls.specs.Requests.{Division, Window}
 use Rattle.schedule_laws.specs.Versions.Versions.{Versions, version_of}
 
 -- ---- divisions
 
-abbrev pub tail_of : Tail → divide.Tail
-tail_of Guard = divide.Guard
-tail_of Cut = divide.Cut
-tail_of CutAndGuard = divide.CutAndGuard
-tail_of Perfect = divide.Perfect
-
 abbrev pub division_of : Division → divide.Division
 division_of d =
-    record { by = pos d.by; outer = d.outer; inner = d.inner; tail = tail_of d.tail }
+    record { by = pos d.by; outer = d.outer; inner = d.inner; tail = d.tail }
 
 -- ---- expressions
 

@@ -3,7 +3,7 @@ use Rattle.std.specs.Prelude.{◌≡◌, ℕ, pos, List, [], ◌∷◌, Some, co
 use Rattle.exo_tree.specs.Tree.{Control, Lit, Var, Add, Mul, Div, Lt, Const, Assign, For, Block}
 use Rattle.exo_tree.specs.Tree.{end, next, Program}
 use Rattle.text_lexer.specs.declared.token.Literal.TheVariants.{Value}
-use Rattle.text_expressions.specs.declared.source.Operator.TheVariants as operator
+use Rattle.text_expressions.specs.declared.source.Infix.TheVariants as operator
 use Rattle.text_expressions.specs.Expression.{Tree, number, variable, field, binary}
 use Rattle.place_laws.specs.Scope.BranchesAtPlaces.{only_branch}
 use Rattle.place_laws.specs.Scope.UnrollLoop.{only_loop}

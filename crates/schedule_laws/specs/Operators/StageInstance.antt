@@ -5,7 +5,7 @@ use Rattle.exo_tree.specs.Tree.{I32, Control, Lit, Var, Add, Mul, Const, Read, A
 use Rattle.exo_tree.specs.Tree.{Block, Statement, end, next, TensorParam, Procedure, Program}
 use Rattle.exo_tree.specs.Places.{Main, Path}
 use Rattle.text_lexer.specs.declared.token.Literal.TheVariants.{Value}
-use Rattle.text_expressions.specs.declared.source.Operator.TheVariants as operator
+use Rattle.text_expressions.specs.declared.source.Infix.TheVariants as operator
 use Rattle.text_expressions.specs.Expression.{Tree, number, variable, binary}
 use Rattle.exo_reader.specs.Source.{span}
 use Rattle.affine_prover.specs.declared.answer.Verdict.TheVariants.{Open}

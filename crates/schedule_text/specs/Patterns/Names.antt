@@ -3,7 +3,7 @@ use Rattle.std.specs.Prelude.{ℕ, ◌+◌, ◌≤◌, List, [], ◌∷◌, if�
 use Rattle.std.specs.Prelude.{Option, Some, None, Result, MatchResult, ◌≡◌, Bool, true, false}
 use Rattle.std.specs.Prelude.{take_while, bytes_eq, codes}
 use Rattle.text_lexer.specs.Bytes.{begins_name, goes_on_name}
-use Rattle.text_lexer.specs.Piece.{piece_of, word_of}
+use Rattle.text_lexer.specs.Lexeme.{lexeme_of, word_of}
 use Rattle.text_lexer.specs.declared.token.Token.{Token}
 use Rattle.text_lexer.specs.declared.token.Token.TheVariants.{Name}
 use Rattle.exo_reader.specs.declared.unit.ReadError.{ReadError}
@@ -37,7 +37,7 @@ fault_by other width text = Some (error_in 1 (kind_at text))
 
 -- what is wrong with a text as a name: at its first token, or behind that
 abbrev pub name_fault : List ℕ → Option ReadError
-name_fault text = fault_by (piece_of text).token (piece_of text).width text
+name_fault text = fault_by (lexeme_of text).token (lexeme_of text).width text
 
 -- exactly the name that stands first, of so many bytes, or exactly what is wrong with the text
 abbrev pub ReadsFound : List ℕ → ℕ → List ℕ → Result (List ℕ) ReadError → Type 0

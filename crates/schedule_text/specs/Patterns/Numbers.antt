@@ -3,7 +3,7 @@
 use Rattle.std.specs.Prelude.{ℕ, ◌+◌, ◌-◌, List, [], ◌∷◌, Bool, true, false, if◌then◌else◌, nat_eq}
 use Rattle.std.specs.Prelude.{length, take_while, drop, Option, Some, None, slice_get, Result, Ok}
 use Rattle.std.specs.Prelude.{Err, MatchResult, ◌≡◌}
-use Rattle.text_lexer.specs.Piece.{piece_of}
+use Rattle.text_lexer.specs.Lexeme.{lexeme_of}
 use Rattle.text_lexer.specs.declared.token.Literal.{Literal}
 use Rattle.text_lexer.specs.declared.token.Literal.TheVariants.{Value, TooLarge}
 use Rattle.text_lexer.specs.declared.token.Token.{Token}
@@ -58,7 +58,7 @@ abbrev pub number_behind : Bool → ℕ → ℕ → List ℕ → Result ℕ Read
 number_behind blank column size [] = Ok 0
 number_behind false column size (hash ∷ bytes) = Err (error_in column Syntax)
 number_behind true column size (hash ∷ bytes) =
-    counted (piece_of bytes).token column size (drop (piece_of bytes).width bytes)
+    counted (lexeme_of bytes).token column size (drop (lexeme_of bytes).width bytes)
 
 -- the number of a pattern, 0 where it has none, or what is wrong from its first `#` on
 abbrev pub number_of : List ℕ → Result ℕ ReadError

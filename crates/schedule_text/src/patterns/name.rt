@@ -9,7 +9,7 @@ use exo_reader::unit::{ReadError, ReadKind};
 use exo_tree::Name;
 use std::alloc::Global;
 use text_expressions::front::is_short;
-use text_lexer::piece::piece_of;
+use text_lexer::lexeme::lexeme_of;
 use text_lexer::text::Text;
 use text_lexer::token::Token;
 
@@ -39,12 +39,12 @@ pub fn read_name(alloc: Global, bytes: &[u8]) -> Result<Name, ReadError>
     requires { length bytes.now ≤ 0x100000 }
     ensures { ReadsName bytes.now result }
 {
-    let Ok(piece) = piece_of(alloc, bytes) else {
+    let Ok(lexeme) = lexeme_of(alloc, bytes) else {
         return Err(without_memory());
     };
-    let token = &piece.token;
+    let token = &lexeme.token;
     match token {
-        Token::Name(found) => read_found(alloc, found, piece.width, bytes),
+        Token::Name(found) => read_found(alloc, found, lexeme.width, bytes),
         _ => Err(error_in(1, kind_at(bytes))),
     }
 }

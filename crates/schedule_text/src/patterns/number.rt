@@ -9,7 +9,7 @@ use exo_reader::refusal::without_memory;
 use exo_reader::unit::{ReadError, ReadKind};
 use std::alloc::Global;
 use text_lexer::bytes::is_printable;
-use text_lexer::piece::piece_of;
+use text_lexer::lexeme::lexeme_of;
 use text_lexer::token::{Literal, Token};
 
 /// An error in the first line.
@@ -113,8 +113,8 @@ pub(crate) fn read_number(alloc: Global, text: &[u8]) -> Result<u32, ReadError>
     if !ends_blank(form) {
         return Err(error_in(column, ReadKind::Syntax));
     }
-    let Ok(piece) = piece_of(alloc, bytes) else {
+    let Ok(lexeme) = lexeme_of(alloc, bytes) else {
         return Err(without_memory());
     };
-    counted(&piece.token, column, text.len(), &bytes[piece.width..])
+    counted(&lexeme.token, column, text.len(), &bytes[lexeme.width..])
 }

@@ -14,7 +14,7 @@ use Rattle.affine_places.specs.Seen.{roots_in}
 use Rattle.check_facts.specs.Contexts.{may_be_walked}
 use Rattle.text_show.specs.Seen.{words_in}
 use Rattle.text_show.specs.Words.{words_of}
-use Rattle.step_driver.specs.declared.needs.site.Site.{Site}
+use Rattle.step_driver.specs.declared.needs.site.NeedSite.{NeedSite}
 
 -- a well-formed procedure of a unit that has no more fields than numbers
 pub record IsWell (it : Program × Procedure) : Type 0 where
@@ -23,11 +23,11 @@ pub record IsWell (it : Program × Procedure) : Type 0 where
   pub well :
       IsProcedure (field_kind it.0.fields) (length it.0.memories) (program_world it.0).callees it.1
 
-abbrev pub seen : Site → Program × Procedure
+abbrev pub seen : NeedSite → Program × Procedure
 seen s = (program s.unit.now, procedure s.proc.now)
 
 -- the tables are those of the procedure and its unit
-pub record IsSite (s : Site) : Type 0 where
+pub record IsSite (s : NeedSite) : Type 0 where
   pub well : IsWell (seen s)
   pub modes : table_says s.modes.now ≡ modes_of (program s.unit.now)
   pub roots : roots_in s.roots.now ≡ roots_of (procedure s.proc.now)

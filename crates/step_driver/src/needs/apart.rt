@@ -15,7 +15,7 @@ ghost use Rattle.step_driver.specs.Needs.PlainNeed.{plain_header, plain_conflict
 ghost use Rattle.step_driver.specs.Needs.Sites.{IsSite, IsWell, seen};
 
 use crate::needs::conflict::{Conflict, Header};
-use crate::needs::site::{Site, place_in};
+use crate::needs::site::{NeedSite, place_in};
 use affine_forms::FormError;
 use affine_systems::{Obligation, OwedList};
 use cursor_forward::StepError;
@@ -105,7 +105,7 @@ fn owed_at(
 /// Puts what a conflict owes last, at a place of the procedure.
 pub(crate) fn put_apart(
     alloc: Global,
-    site: &Site<'_, '_>,
+    site: &NeedSite<'_, '_>,
     path: &Path,
     k: &Conflict,
     out: &mut OwedList,

@@ -27,11 +27,11 @@ ghost use Rattle.step_driver.specs.Needs.Sites.{IsSite, seen};
 use crate::needs::apart::put_apart;
 use crate::needs::fact::Fact;
 use crate::needs::need::Need;
-use crate::needs::site::{Site, place_in};
+use crate::needs::site::{NeedSite, place_in};
 use affine_forms::formula_of;
 use affine_places::{AtPlace, Roots};
 use affine_systems::{Context, Obligation, OwedList, systems};
-use check_facts::Cursor;
+use check_facts::PlaceWalk;
 use check_facts::laws::well_formed_procedures_may_be_walked;
 use config_state::FieldTable;
 use cursor_forward::StepError;
@@ -72,8 +72,8 @@ fn put_there(
 /// Puts what a fact owes last, at a place of the procedure.
 fn put_fact(
     alloc: Global,
-    site: &Site<'_, '_>,
-    cursor: &mut Cursor<'_, '_>,
+    site: &NeedSite<'_, '_>,
+    cursor: &mut PlaceWalk<'_, '_>,
     path: &Path,
     fact: &Fact,
     out: &mut OwedList,
@@ -98,8 +98,8 @@ fn put_fact(
 /// Puts what a need owes last.
 fn put_need(
     alloc: Global,
-    site: &Site<'_, '_>,
-    cursor: &mut Cursor<'_, '_>,
+    site: &NeedSite<'_, '_>,
+    cursor: &mut PlaceWalk<'_, '_>,
     need: &Need,
     out: &mut OwedList,
 ) -> Result<(), StepError>
@@ -119,8 +119,8 @@ fn put_need(
 /// Puts what needs owe last, in their order.
 fn put_needs(
     alloc: Global,
-    site: &Site<'_, '_>,
-    cursor: &mut Cursor<'_, '_>,
+    site: &NeedSite<'_, '_>,
+    cursor: &mut PlaceWalk<'_, '_>,
     needs: &[Need],
     out: &mut OwedList,
 ) -> Result<(), StepError>
@@ -163,7 +163,7 @@ fn owed_for(
     well_formed_procedures_may_be_walked();
     let roots = Roots::of(alloc, p)?;
     let words = Words::new(alloc, unit, p)?;
-    let site = Site {
+    let site = NeedSite {
         unit,
         modes,
         proc: p,
@@ -171,7 +171,7 @@ fn owed_for(
         writes,
         words: &words,
     };
-    let mut cursor = Cursor::new(alloc, unit, p, &roots, writes);
+    let mut cursor = PlaceWalk::new(alloc, unit, p, &roots, writes);
     let mut out = OwedList::new(alloc);
     put_needs(alloc, &site, &mut cursor, needs, &mut out)?;
     Ok(out.into_items())

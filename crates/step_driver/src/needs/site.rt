@@ -13,7 +13,7 @@ use tree_edits::alone_at;
 
 /// By what the needs of a procedure are told.
 #[derive(Drop)]
-pub(crate) struct Site<'s, 'a> {
+pub(crate) struct NeedSite<'s, 'a> {
     pub(crate) unit: &'s Unit,
     /// What each procedure of the unit touches.
     pub(crate) modes: &'s ModeTable,

@@ -5,7 +5,7 @@ ghost use Rattle.exo_tree.specs.PlainProcedure.{procedure};
 ghost use Rattle.tree_edits.specs.Made.Names as names;
 
 use crate::made::ids::are_old;
-use crate::made::naming::Walk;
+use crate::made::naming::NamingWalk;
 use exo_tree::{Binder, Block, Ctrl, Id, Leaves, Proc};
 use std::alloc::{AllocError, Global};
 
@@ -52,8 +52,8 @@ pub fn named_copies(alloc: Global, p: &Proc, copies: u32, b: &Block) -> Result<B
     if are_old(alloc, copies, b)? {
         return b.duplicate(alloc);
     }
-    let mut walk = Walk::new(alloc, p)?;
+    let mut walk = NamingWalk::new(alloc, p)?;
     walk.statements(alloc, copies, b)?;
-    let Walk { given, .. } = walk;
+    let NamingWalk { given, .. } = walk;
     b.mapped(alloc, &Given { binders: given })
 }

@@ -18,18 +18,18 @@ use std::alloc::{AllocError, Global};
 /// What a walk knows: the names in scope, those that are taken, and the binders so far with the
 /// names that they are given.
 #[derive(Drop)]
-pub(crate) struct Walk {
+pub(crate) struct NamingWalk {
     pub(crate) scope: Vec<Name>,
     pub(crate) taken: Vec<Name>,
     pub(crate) given: Vec<Binder>,
 }
 
-impl Walk {
+impl NamingWalk {
     /// A walk before the body of a procedure.
-    pub(crate) fn new(alloc: Global, p: &Proc) -> Result<Walk, AllocError>
+    pub(crate) fn new(alloc: Global, p: &Proc) -> Result<NamingWalk, AllocError>
         ensures { IfOk result (λ w. naming w ≡ first_naming (procedure p.now)) }
     {
-        let mut walk = Walk {
+        let mut walk = NamingWalk {
             scope: Vec::new(alloc),
             taken: Vec::new(alloc),
             given: Vec::new(alloc),

@@ -8,7 +8,7 @@ use Rattle.bounds_check.specs.Outcomes.{AreOwedFor}
 use Rattle.bounds_check.specs.declared.error.CheckError.{CheckError}
 use Rattle.bounds_check.proofs.Chunks.{part_passes, all_joined}
 use Rattle.bounds_check.proofs.Crosses.{crosses}
-use Rattle.bounds_check.proofs.Shared.{Site-sync}
+use Rattle.bounds_check.proofs.Shared.{ProcedureSite-sync}
 use Rattle.bounds_check.proofs.list.listed_in_chunks.Goals as goal
 
 pub map_chunks-requires-clause-accepts : goal.map_chunks-requires-clause-accepts
@@ -16,7 +16,7 @@ map_chunks-requires-clause-accepts g c _ _ start chunk is =
     (c.requires.site, part_passes placed (may_be_owed (procedure c.args.site.now.proc.now)) c.args.claims.now chunk.now c.args.size start is.value c.requires.owable)
 
 pub map_chunks-requires-sync-F : goal.map_chunks-requires-sync-F
-map_chunks-requires-sync-F g c κs within = search (Site-sync, crosses) depth 20
+map_chunks-requires-sync-F g c κs within = search (ProcedureSite-sync, crosses) depth 20
 
 pub returns : goal.returns
 returns g c =

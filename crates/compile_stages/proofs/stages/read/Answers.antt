@@ -3,7 +3,7 @@ use Rattle.std.proofs.lemmas.List.{length-append, length-map}
 use Rattle.text_lexer.specs.Layout.{lexed, place_of, token_of, end_place}
 use Rattle.exo_reader.specs.Items.{unit}
 use Rattle.exo_reader.specs.Texts.{tokens_of, places_of}
-use Rattle.exo_types.specs.Typed.{items_of}
+use Rattle.exo_types.specs.UnitBuilder.{items_of}
 use Rattle.compile_stages.proofs.stages.read.Goals as goal
 
 -- there is a place more than tokens

@@ -10,7 +10,7 @@ use Rattle.exo_effects.specs.PlainParts.{parts_in}
 use Rattle.exo_effects.specs.PlainSpots.{LeadsTo}
 use Rattle.exo_effects.specs.PlainUses.{plain_uses}
 use Rattle.exo_effects.specs.Uses.{argument_at}
-use Rattle.exo_effects.specs.declared.piece.Spot.{Spot}
+use Rattle.exo_effects.specs.declared.piece.PieceStart.{PieceStart}
 use Rattle.exo_effects.proofs.Given.{whole_use, argued}
 use Rattle.exo_effects.proofs.passed.argument.Goals as goal
 
@@ -25,7 +25,7 @@ returns c =
     let before = parts_in c.insert_params.new.self in
     let parts = parts_in c.find.new.parts in
     let leads =
-    subst (λ (found : Option Spot). LeadsTo 1 (opened 1 path p.body) found before parts) c.in-Some.is c.in_ok-spot.ensures in
+    subst (λ (found : Option PieceStart). LeadsTo 1 (opened 1 path p.body) found before parts) c.in-Some.is c.in_ok-spot.ensures in
     if_ok (λ l. plain_uses l.items ≡ whole_use w parts a) (λ l. plain_uses l.items ≡ argument_at u p path k)
     (λ l h. h ∙ argued u p path k c.in-Some.spot before parts c.passed_at.result.now
     c.in-Some-get.a.now w leads

@@ -1,7 +1,7 @@
 use Rattle.std.proofs.Common.{◌<◌, ◌≤◌, ◌+◌, length, refl, arith}
 use Rattle.exo_tree.specs.PlainPlace.{step_taken}
 use Rattle.exo_effects.specs.PlainParts.{parts_in}
-use Rattle.exo_effects.specs.declared.piece.Spot.{Spot}
+use Rattle.exo_effects.specs.declared.piece.PieceStart.{PieceStart}
 use Rattle.exo_effects.proofs.Spots.{last_missing, last_there}
 use Rattle.exo_effects.proofs.piece.arrive.Goals as goal
 use Rattle.exo_effects.proofs.piece.arrive.Goals.{then-from-len-via-then-from-len, then-from-len-via-else-from-len+then-count-len}
@@ -18,7 +18,7 @@ returns-then-from-len c =
 
 pub returns : goal.returns
 returns c =
-    let spot : Spot = record { block = c.args.b; from = c.args.step.index } in
+    let spot : PieceStart = record { block = c.args.b; from = c.args.step.index } in
     let long : c.args.step.index + c.args.count ≤ length c.args.b.now =
     omega (arith, c.if-from-len.false, c.if-count-len.false, c.len.ensures, c.len-else-from-len.ensures) in
     last_there c.args.count (step_taken c.args.step) c.args.b.now spot

@@ -1,6 +1,6 @@
 use Rattle.std.proofs.Common.{◌∷◌, take, drop, length, ◌-◌}
 use Rattle.schedule_calls.specs.Readings.{at}
-use Rattle.schedule_calls.specs.declared.operator.Operator.TheVariants as operator
+use Rattle.schedule_calls.specs.declared.operator.OperatorName.TheVariants as operator
 use Rattle.schedule_calls.proofs.Answered.{some_of}
 use Rattle.schedule_calls.proofs.Lists.{first_and_rest}
 use Rattle.schedule_calls.proofs.Changes.{operation_read}

@@ -1,5 +1,5 @@
 use Rattle.schedule_calls.specs.Readings.{rename}
-use Rattle.schedule_calls.specs.declared.operator.Operator.TheVariants as operator
+use Rattle.schedule_calls.specs.declared.operator.OperatorName.TheVariants as operator
 use Rattle.schedule_calls.proofs.Answered.{some_of}
 use Rattle.schedule_calls.proofs.Lists.{one_item}
 use Rattle.schedule_calls.proofs.Changes.{operation_read}

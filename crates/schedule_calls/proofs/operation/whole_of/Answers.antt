@@ -1,5 +1,5 @@
 use Rattle.schedule_calls.specs.Readings.{whole}
-use Rattle.schedule_calls.specs.declared.operator.Operator.TheVariants as operator
+use Rattle.schedule_calls.specs.declared.operator.OperatorName.TheVariants as operator
 use Rattle.schedule_calls.proofs.Lists.{no_item}
 use Rattle.schedule_calls.proofs.Changes.{operation_read}
 use Rattle.schedule_calls.proofs.operation.whole_of.Goals as goal

@@ -14,7 +14,7 @@ returns g c =
     let theirs = names_in s.theirs.now in
     let b = block s.against.now in
     let q = procedure s.by.callee.now in
-    let given = c.in_ok-given.ensures at theirs b in
+    let given = c.in_ok-given.ensures in
     record {
       value =
           same_value (λ o. o) _ _ c.difference_at.result
