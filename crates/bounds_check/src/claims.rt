@@ -109,21 +109,21 @@ fn put_claim(
 pub(crate) fn put_claims(
     alloc: Global,
     site: &ProcedureSite<'_, '_>,
-    cursor: &mut PlaceWalk<'_, '_>,
+    walk: &mut PlaceWalk<'_, '_>,
     place: &Path,
     claims: &[Placed],
     out: &mut OwedList,
 ) -> Result<(), CheckError>
     requires site { IsSite site.now }
-    requires cursor { cursor.old ≡ (program site.now.unit.now, procedure site.now.proc.now) }
+    requires walk { walk.old ≡ (program site.now.unit.now, procedure site.now.proc.now) }
     requires place { IsPlaceOf place.now (procedure site.now.proc.now) }
     requires some { 0 < length claims.now }
     requires here { list_all (λ c. same_path c.place place.now) (map placed claims.now) ≡ true }
     requires rules { IsTrue (list_all (λ c. claim_keeps_rules c.claim) (map placed claims.now)) }
     ensures owes { Owes result (program site.now.unit.now) (procedure site.now.proc.now) (map placed claims.now) out.old out.new }
-    ensures same { cursor.new ≡ cursor.old }
+    ensures same { walk.new ≡ walk.old }
 {
-    let (context, facts) = cursor.at(alloc, place)?;
+    let (context, facts) = walk.at(alloc, place)?;
     let at = AtPlace {
         fields: &site.unit.fields,
         roots: site.roots,

@@ -58,12 +58,12 @@ pub(crate) fn obligations_of_claims(
     ensures { AreOwedFor result (program site.now.unit.now)
         (procedure site.now.proc.now) (map placed claims.now) }
 {
-    let mut cursor = PlaceWalk::new(alloc, site.unit, site.proc, site.roots, site.writes);
+    let mut walk = PlaceWalk::new(alloc, site.unit, site.proc, site.roots, site.writes);
     let mut out = OwedList::new(alloc);
     let mut rest = claims;
     while let Some(first) = rest.first() {
         let (here, others) = rest.split_at(count_at(rest, &first.place));
-        put_claims(alloc, site, &mut cursor, &first.place, here, &mut out)?;
+        put_claims(alloc, site, &mut walk, &first.place, here, &mut out)?;
         rest = others;
     }
     Ok(out.into_items())

@@ -90,13 +90,13 @@ fn find_refusal(
         (first_fault (program site.now.unit.now) (procedure site.now.proc.now) os
         (map placed claims.now)) }
 {
-    let mut cursor = PlaceWalk::new(alloc, site.unit, site.proc, site.roots, site.writes);
+    let mut walk = PlaceWalk::new(alloc, site.unit, site.proc, site.roots, site.writes);
     let mut amount = before;
     let mut rest = claims;
     while let Some(first) = rest.first() {
         let (here, others) = rest.split_at(1);
         let mut own = OwedList::new(alloc);
-        put_claims(alloc, site, &mut cursor, &first.place, here, &mut own)?;
+        put_claims(alloc, site, &mut walk, &first.place, here, &mut own)?;
         amount = amount.grown_by(&own.into_items())?;
         rest = others;
     }

@@ -6,14 +6,14 @@ mod after;
 mod agreement;
 mod basis;
 mod context;
-mod cursor;
 mod enter;
 mod known;
 pub mod laws;
 mod level;
+mod place_walk;
 mod value;
 mod walk;
 mod writes;
 
 pub use agreement::is_same_path;
-pub use cursor::{PlaceWalk, context_at};
+pub use place_walk::{PlaceWalk, context_at};

@@ -44,8 +44,8 @@ impl Contexts for Standing<'_, '_> {
     ghost fits = { λ s. context_fits (program s.unit.now) (procedure s.proc.now) s.path.now };
 
     fn context(&self, alloc: Global) -> Result<Context, FormError> {
-        let mut cursor = PlaceWalk::new(alloc, self.unit, self.proc, self.roots, self.writes);
-        let (context, _) = cursor.at(alloc, self.path)?;
+        let mut walk = PlaceWalk::new(alloc, self.unit, self.proc, self.roots, self.writes);
+        let (context, _) = walk.at(alloc, self.path)?;
         Ok(context)
     }
 }

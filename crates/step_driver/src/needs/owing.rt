@@ -73,20 +73,20 @@ fn put_there(
 fn put_fact(
     alloc: Global,
     site: &NeedSite<'_, '_>,
-    cursor: &mut PlaceWalk<'_, '_>,
+    walk: &mut PlaceWalk<'_, '_>,
     path: &Path,
     fact: &Fact,
     out: &mut OwedList,
 ) -> Result<(), StepError>
     requires site { IsSite site.now }
-    requires cursor { cursor.old ≡ seen site.now }
+    requires walk { walk.old ≡ seen site.now }
     requires rules { IsTrue (condition_keeps_rules (condition_of (plain_fact fact.now))) }
     ensures puts { (k : Numbered) (n : rule.Need)
         → n ≡ rule.Says path.now (plain_fact fact.now)
         → Puts result (target_in (seen site.now) k) n out.old out.new }
-    ensures same { cursor.new ≡ cursor.old }
+    ensures same { walk.new ≡ walk.old }
 {
-    let (context, facts) = cursor.at(alloc, &place_in(site.proc, path))?;
+    let (context, facts) = walk.at(alloc, &place_in(site.proc, path))?;
     let there = AtPlace {
         fields: &site.unit.fields,
         roots: site.roots,
@@ -99,19 +99,19 @@ fn put_fact(
 fn put_need(
     alloc: Global,
     site: &NeedSite<'_, '_>,
-    cursor: &mut PlaceWalk<'_, '_>,
+    walk: &mut PlaceWalk<'_, '_>,
     need: &Need,
     out: &mut OwedList,
 ) -> Result<(), StepError>
     requires site { IsSite site.now }
-    requires cursor { cursor.old ≡ seen site.now }
+    requires walk { walk.old ≡ seen site.now }
     requires affine { IsTrue (is_affine (plain_need need.now)) }
     ensures puts { (k : Numbered)
         → Puts result (target_in (seen site.now) k) (plain_need need.now) out.old out.new }
-    ensures same { cursor.new ≡ cursor.old }
+    ensures same { walk.new ≡ walk.old }
 {
     match need {
-        Need::Says(path, fact) => put_fact(alloc, site, cursor, path, fact, out),
+        Need::Says(path, fact) => put_fact(alloc, site, walk, path, fact, out),
         Need::Apart(path, k) => put_apart(alloc, site, path, k, out),
     }
 }
@@ -120,12 +120,12 @@ fn put_need(
 fn put_needs(
     alloc: Global,
     site: &NeedSite<'_, '_>,
-    cursor: &mut PlaceWalk<'_, '_>,
+    walk: &mut PlaceWalk<'_, '_>,
     needs: &[Need],
     out: &mut OwedList,
 ) -> Result<(), StepError>
     requires site { IsSite site.now }
-    requires cursor { cursor.old ≡ seen site.now }
+    requires walk { walk.old ≡ seen site.now }
     requires affine { IsTrue (list_all is_affine (map plain_need needs.now)) }
     ensures { (k : Numbered)
         → PutsAll result (target_in (seen site.now) k) (map plain_need needs.now) out.old out.new }
@@ -133,8 +133,8 @@ fn put_needs(
     let [n, rest @ ..] = needs else {
         return Ok(());
     };
-    put_need(alloc, site, cursor, n, out)?;
-    put_needs(alloc, site, cursor, rest, out)
+    put_need(alloc, site, walk, n, out)?;
+    put_needs(alloc, site, walk, rest, out)
 }
 
 /// What needs owe, in their order, by the tables of the whole unit.
@@ -171,9 +171,9 @@ fn owed_for(
         writes,
         words: &words,
     };
-    let mut cursor = PlaceWalk::new(alloc, unit, p, &roots, writes);
+    let mut walk = PlaceWalk::new(alloc, unit, p, &roots, writes);
     let mut out = OwedList::new(alloc);
-    put_needs(alloc, &site, &mut cursor, needs, &mut out)?;
+    put_needs(alloc, &site, &mut walk, needs, &mut out)?;
     Ok(out.into_items())
 }
 

@@ -15,7 +15,7 @@ returns-in_err-context-clause-owes c =
     let u = program c.args.site.now.unit.now in
     let p = procedure c.args.site.now.proc.now in
     let e = c.in_err-context.field-0.0 in
-    let fits = ap (λ (it : Program × Procedure). context_fits it.0 it.1 c.args.place.now) c.requires.cursor in
+    let fits = ap (λ (it : Program × Procedure). context_fits it.0 it.1 c.args.place.now) c.requires.walk in
     left_unfit u p c.args.claims.now c.args.out.now c.from_residual.result e c.args.out.now c.args.place.now
     c.requires.some c.requires.here c.from_residual.ensures.1 (subst (IsWide e) fits c.in_err-context.ensures.made)
 

@@ -9,7 +9,7 @@ use Rattle.bounds_check.proofs.list.obligations_of_claims.Goals as goal
 
 pub loop-first-init : goal.loop-first-init
 loop-first-init c = record {
-  goes = c.new-cursor.ensures;
+  goes = c.new-walk.ensures;
   left =
       onward_all (program c.args.site.now.unit.now) (procedure c.args.site.now.proc.now)
       (map placed c.args.claims.now) c.new-out.result c.new-out.ensures c.requires.owable;

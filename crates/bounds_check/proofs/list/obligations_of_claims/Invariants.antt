@@ -7,7 +7,7 @@ use Rattle.bounds_check.proofs.list.obligations_of_claims.Given as goal
 
 abbrev pub invariant-loop-first : goal.invariant-loop-first
 invariant-loop-first l = record {
-  goes : l.cursor ≡ (program l.site.unit.now, procedure l.site.proc.now);
+  goes : l.walk ≡ (program l.site.unit.now, procedure l.site.proc.now);
   left : Onward (program l.site.unit.now) (procedure l.site.proc.now) (map placed l.claims) l.out (map placed l.rest);
 }
 

@@ -13,7 +13,7 @@ use Rattle.bounds_check.proofs.listing.find_refusal.Goals as goal
 
 pub loop-first-init : goal.loop-first-init
 loop-first-init c = record {
-  goes = c.new-cursor.ensures;
+  goes = c.new-walk.ensures;
   owable = c.requires.owable;
   fine = λ os h. fine_begin (program c.args.site.now.unit.now) (procedure c.args.site.now.proc.now)
       os (map placed c.args.claims.now) c.args.before h;
@@ -51,8 +51,8 @@ put_claims-requires-clause-rules c =
     (both_owable (may_be_owed p) (map placed c.loop-first.rest.now) (map placed here)
     (map placed others) split c.loop-first.invariant.owable).0
 
-pub put_claims-requires-clause-cursor : goal.put_claims-requires-clause-cursor
-put_claims-requires-clause-cursor c = c.loop-first.invariant.goes
+pub put_claims-requires-clause-walk : goal.put_claims-requires-clause-walk
+put_claims-requires-clause-walk c = c.loop-first.invariant.goes
 
 pub returns-in_err-put_claims : goal.returns-in_err-put_claims
 returns-in_err-put_claims c os h =

@@ -12,7 +12,7 @@ use Rattle.bounds_check.proofs.listing.find_refusal.Given as goal
 
 abbrev pub invariant-loop-first : goal.invariant-loop-first
 invariant-loop-first l = record {
-  goes : l.cursor ≡ (program l.site.unit.now, procedure l.site.proc.now);
+  goes : l.walk ≡ (program l.site.unit.now, procedure l.site.proc.now);
   owable : list_all (may_be_owed (procedure l.site.proc.now)) (map placed l.rest) ≡ true;
   fine : (os : List Owed) → IsAmount os l.fn.before
       → FineSoFar (program l.site.unit.now) (procedure l.site.proc.now) os (map placed l.claims) (map placed l.rest) l.amount;

@@ -18,11 +18,11 @@ of-requires c =
     let t = target_in (program c.args.unit.now, procedure c.args.p.now) c.requires.target.0 in
     extents_there t.proc (walked c.well_formed_procedures_may_be_walked.ensures c.procedures_keep_rules.ensures t c.requires.target.1)
 
-pub new-cursor-requires-clause-numbered : goal.new-cursor-requires-clause-numbered
-new-cursor-requires-clause-numbered c = few_fields (program c.args.unit.now) c.requires.target.1.unit
+pub new-walk-requires-clause-numbered : goal.new-walk-requires-clause-numbered
+new-walk-requires-clause-numbered c = few_fields (program c.args.unit.now) c.requires.target.1.unit
 
-pub new-cursor-requires-clause-rules : goal.new-cursor-requires-clause-rules
-new-cursor-requires-clause-rules c =
+pub new-walk-requires-clause-rules : goal.new-walk-requires-clause-rules
+new-walk-requires-clause-rules c =
     let t = target_in (program c.args.unit.now, procedure c.args.p.now) c.requires.target.0 in
     walked c.well_formed_procedures_may_be_walked.ensures c.procedures_keep_rules.ensures t c.requires.target.1
 

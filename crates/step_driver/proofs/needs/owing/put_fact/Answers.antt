@@ -15,11 +15,11 @@ returns-in_err-context-clause-puts c k n h =
     let place = c.place_in.result in
     let path = c.args.path.now in
     let fact = plain_fact c.args.fact.now in
-    let fits = ap (λ (jt : Program × Procedure). context_fits jt.0 jt.1 place) c.requires.cursor in
+    let fits = ap (λ (jt : Program × Procedure). context_fits jt.0 jt.1 place) c.requires.walk in
     let same = same_context t.unit t.proc place path c.place_in.ensures.same in
     subst (λ (m : Need). Puts c.from_residual.result t m c.args.out.now c.args.out.now) (sym h)
     (refused_form t path fact c.args.out.now c.from_residual.result c.args.out.now c.in_err-context.field-0.0
-    (context_fits c.args.cursor.now.0 c.args.cursor.now.1 place) c.from_residual.ensures.1 c.in_err-context.ensures.made
+    (context_fits c.args.walk.now.0 c.args.walk.now.1 place) c.from_residual.ensures.1 c.in_err-context.ensures.made
     (λ b. unfit_context t path fact (sym same.1.0 ∙ sym fits ∙ b)))
 
 pub returns-clause-puts : goal.returns-clause-puts
@@ -28,9 +28,9 @@ returns-clause-puts c k n h =
     let place = c.place_in.result in
     let path = c.args.path.now in
     let same = same_context t.unit t.proc place path c.place_in.ensures.same in
-    let fits = ap (λ (jt : Program × Procedure). context_fits jt.0 jt.1 place) c.requires.cursor in
-    let context = ap (λ (jt : Program × Procedure). context_of jt.0 jt.1 place) c.requires.cursor in
-    let facts = ap (λ (jt : Program × Procedure). facts_of jt.0 jt.1 place) c.requires.cursor in
+    let fits = ap (λ (jt : Program × Procedure). context_fits jt.0 jt.1 place) c.requires.walk in
+    let context = ap (λ (jt : Program × Procedure). context_of jt.0 jt.1 place) c.requires.walk in
+    let facts = ap (λ (jt : Program × Procedure). facts_of jt.0 jt.1 place) c.requires.walk in
     let made = c.in_ok-context.ensures.made in
     subst (λ (m : Need). Puts c.put_there.result t m c.args.out.now c.put_there.new.out) (sym h)
     (c.put_there.ensures t refl c.requires.site.roots (made.1.1 ∙ facts ∙ same.1.1) c.requires.site.words

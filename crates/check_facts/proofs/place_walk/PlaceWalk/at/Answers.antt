@@ -4,7 +4,7 @@ use Rattle.check_facts.specs.Contexts.{ContextMade}
 use Rattle.check_facts.specs.Walks.{telling_of, head_facts, round_facts, place_of}
 use Rattle.check_facts.proofs.Adding.{Came, refused_second, added_more}
 use Rattle.check_facts.proofs.Arrivals.{context_refused, context_made}
-use Rattle.check_facts.proofs.cursor.PlaceWalk.at.Goals as goal
+use Rattle.check_facts.proofs.place_walk.PlaceWalk.at.Goals as goal
 
 pub returns-in_err-facts-clause-made : goal.returns-in_err-facts-clause-made
 returns-in_err-facts-clause-made c =

@@ -12,7 +12,7 @@ use Rattle.check_facts.specs.Walks.{telling_of, round_facts, Added}
 use Rattle.check_facts.proofs.Arrivals.{opened_first, any_branch}
 use Rattle.check_facts.proofs.Openings.{opened_within}
 use Rattle.check_facts.proofs.Ways.{found}
-use Rattle.check_facts.proofs.cursor.descend.Goals as goal
+use Rattle.check_facts.proofs.place_walk.descend.Goals as goal
 
 pub bring-requires-clause-within : goal.bring-requires-clause-within
 bring-requires-clause-within c =

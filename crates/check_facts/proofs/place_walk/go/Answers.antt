@@ -4,7 +4,7 @@ use Rattle.exo_tree.specs.PlainProcedure.{procedure}
 use Rattle.exo_tree.specs.PlainUnit.{program}
 use Rattle.check_facts.specs.Contexts.{facts_from, known_at_place}
 use Rattle.check_facts.proofs.Arrivals.{no_steps, none_told}
-use Rattle.check_facts.proofs.cursor.go.Goals as goal
+use Rattle.check_facts.proofs.place_walk.go.Goals as goal
 
 pub returns-in-None-clause-known : goal.returns-in-None-clause-known
 returns-in-None-clause-known c =

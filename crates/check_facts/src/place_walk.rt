@@ -142,7 +142,7 @@ impl<'w, 'r> Model for PlaceWalk<'w, 'r> {
 }
 
 impl<'w, 'r> PlaceWalk<'w, 'r> {
-    /// A cursor for the places of a procedure of the unit. The roots are those of the procedure's names, and the table says
+    /// A walk over the places of a procedure of the unit. The roots are those of the procedure's names, and the table says
     /// which fields each procedure of the unit may write.
     pub fn new(
         alloc: Global,
@@ -207,6 +207,6 @@ pub fn context_at(
     };
     let roots = Roots::of(alloc, proc)?;
     let writes = written_table(alloc, unit)?;
-    let mut cursor = PlaceWalk::new(alloc, unit, proc, &roots, &writes);
-    cursor.at(alloc, path)
+    let mut places = PlaceWalk::new(alloc, unit, proc, &roots, &writes);
+    places.at(alloc, path)
 }
