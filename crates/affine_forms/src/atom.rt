@@ -23,7 +23,6 @@ use std::marker::Model;
 use std::sync::Arc;
 
 /// What a control value is built of: a part of an expression that is kept as it is.
-#[derive(Drop)]
 pub enum Atom {
     /// A control variable.
     Variable(Id),
@@ -37,11 +36,33 @@ pub enum Atom {
     Quotient(Quotient),
 }
 
+/// Written out, so that it is proved once.
+impl Drop for Atom {
+    fn drop(self) {
+        match self {
+            Atom::Variable(_) => {}
+            Atom::EntryField(_, _) => {}
+            Atom::UnknownField(_, _, _) => {}
+            Atom::OpaqueStride(_, _) => {}
+            Atom::Quotient(_) => {}
+        }
+    }
+}
+
 /// An atom with its coefficient.
-#[derive(Drop)]
 pub struct Weighed {
     pub coefficient: i128,
     pub atom: Atom,
+}
+
+/// Written out, so that it is proved once.
+impl Drop for Weighed {
+    fn drop(self) {
+        let Weighed {
+            coefficient: _,
+            atom: _,
+        } = self;
+    }
 }
 
 /// A weighed sum of atoms, in order of first appearance. Its coefficients are at most 2^126 in size.

@@ -13,12 +13,23 @@ use std::alloc::AllocError;
 use std::sync::Arc;
 
 /// An atom that is no quotient.
-#[derive(Drop)]
 pub(crate) enum Leaf {
     Variable(Id),
     EntryField(FieldId, Kind),
     UnknownField(FieldId, Kind, Arc<Path>),
     OpaqueStride(Id, u32),
+}
+
+/// Written out, so that it is proved once.
+impl Drop for Leaf {
+    fn drop(self) {
+        match self {
+            Leaf::Variable(_) => {}
+            Leaf::EntryField(_, _) => {}
+            Leaf::UnknownField(_, _, _) => {}
+            Leaf::OpaqueStride(_, _) => {}
+        }
+    }
 }
 
 impl Leaf {

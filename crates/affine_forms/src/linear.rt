@@ -175,10 +175,19 @@ impl Draft {
 
 /// An affine form: a constant and a weighed sum of atoms, with numbers of at most 2^62 in size.
 /// Each atom stands once, with a coefficient other than 0.
-#[derive(Drop)]
 pub struct Linear {
     constant: i128,
     terms: Terms,
+}
+
+/// Written out, so that it is proved once.
+impl Drop for Linear {
+    fn drop(self) {
+        let Linear {
+            constant: _,
+            terms: _,
+        } = self;
+    }
 }
 
 impl Model for Linear {

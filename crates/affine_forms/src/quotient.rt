@@ -15,10 +15,16 @@ use std::sync::Arc;
 
 /// The quotient of a constant and a sum by a literal of at least 1, rounded down.
 /// Equal quotients inside it stand once in the table that it shares with them.
-#[derive(Drop)]
 pub struct Quotient {
     table: Arc<Table>,
     index: usize,
+}
+
+/// Written out, so that it is proved once.
+impl Drop for Quotient {
+    fn drop(self) {
+        let Quotient { table: _, index: _ } = self;
+    }
 }
 
 impl Model for Quotient {

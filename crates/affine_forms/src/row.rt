@@ -15,10 +15,19 @@ use std::alloc::{AllocError, Global};
 use std::marker::Model;
 
 /// An atom of a row: one that is no quotient, or the quotient of an earlier row.
-#[derive(Drop)]
 pub(crate) enum Part {
     Whole(Leaf),
     Earlier(usize),
+}
+
+/// Written out, so that it is proved once.
+impl Drop for Part {
+    fn drop(self) {
+        match self {
+            Part::Whole(_) => {}
+            Part::Earlier(_) => {}
+        }
+    }
 }
 
 impl Part {
@@ -76,10 +85,19 @@ impl Part {
 }
 
 /// A part with its coefficient.
-#[derive(Drop)]
 pub(crate) struct Share {
     pub(crate) coefficient: i128,
     pub(crate) part: Part,
+}
+
+/// Written out, so that it is proved once.
+impl Drop for Share {
+    fn drop(self) {
+        let Share {
+            coefficient: _,
+            part: _,
+        } = self;
+    }
 }
 
 impl Share {
@@ -186,11 +204,21 @@ fn is_same_sum(
 }
 
 /// The quotient of a constant and a sum by a literal.
-#[derive(Drop)]
 pub(crate) struct QuotientRow {
     pub(crate) constant: i128,
     pub(crate) terms: Vec<Share>,
     pub(crate) by: i64,
+}
+
+/// Written out, so that it is proved once.
+impl Drop for QuotientRow {
+    fn drop(self) {
+        let QuotientRow {
+            constant: _,
+            terms: _,
+            by: _,
+        } = self;
+    }
 }
 
 impl QuotientRow {

@@ -8,7 +8,6 @@ use std::alloc::{AllocError, Global};
 use std::marker::Model;
 
 /// An expression over 64-bit numbers. A quotient and a remainder are by a literal, and round towards minus infinity.
-#[derive(Drop)]
 pub enum CNumber {
     Literal(i64),
     Named(String),
@@ -22,8 +21,24 @@ pub enum CNumber {
     Remainder(Box<CNumber>, i64),
 }
 
+/// Written out, so that it is proved once.
+impl Drop for CNumber {
+    fn drop(self) {
+        match self {
+            CNumber::Literal(_) => {}
+            CNumber::Named(_) => {}
+            CNumber::Stride(_, _) => {}
+            CNumber::Opposite(_) => {}
+            CNumber::Sum(_, _) => {}
+            CNumber::Difference(_, _) => {}
+            CNumber::Product(_, _) => {}
+            CNumber::Quotient(_, _) => {}
+            CNumber::Remainder(_, _) => {}
+        }
+    }
+}
+
 /// A condition.
-#[derive(Drop)]
 pub enum CTest {
     Always,
     Never,
@@ -36,6 +51,24 @@ pub enum CTest {
     Equal(Box<CNumber>, Box<CNumber>),
     Both(Box<CTest>, Box<CTest>),
     Either(Box<CTest>, Box<CTest>),
+}
+
+/// Written out, so that it is proved once.
+impl Drop for CTest {
+    fn drop(self) {
+        match self {
+            CTest::Always => {}
+            CTest::Never => {}
+            CTest::IsSet(_) => {}
+            CTest::Less(_, _) => {}
+            CTest::LessEqual(_, _) => {}
+            CTest::More(_, _) => {}
+            CTest::MoreEqual(_, _) => {}
+            CTest::Equal(_, _) => {}
+            CTest::Both(_, _) => {}
+            CTest::Either(_, _) => {}
+        }
+    }
 }
 
 /// What a cell lies in.
@@ -54,7 +87,6 @@ pub struct CCell {
 }
 
 /// An expression over unsigned 32-bit numbers.
-#[derive(Drop)]
 pub enum CData {
     Literal(i64),
     Read(CCell),
@@ -65,6 +97,22 @@ pub enum CData {
     Product(Box<CData>, Box<CData>),
     /// The third where the first is below the second as signed numbers, else the fourth.
     Select(Box<CData>, Box<CData>, Box<CData>, Box<CData>),
+}
+
+/// Written out, so that it is proved once.
+impl Drop for CData {
+    fn drop(self) {
+        match self {
+            CData::Literal(_) => {}
+            CData::Read(_) => {}
+            CData::Opposite(_) => {}
+            CData::Relu(_) => {}
+            CData::Sum(_, _) => {}
+            CData::Difference(_, _) => {}
+            CData::Product(_, _) => {}
+            CData::Select(_, _, _, _) => {}
+        }
+    }
 }
 
 /// The struct of windows of so many dimensions over cells of that type.
@@ -126,7 +174,6 @@ pub struct CInstruction {
 
 /// A statement.
 #[cycle(ctree)]
-#[derive(Drop)]
 pub enum CStatement {
     /// The cell gets the number, converted to the type.
     Store(Cell, CCell, Box<CData>),
@@ -148,11 +195,39 @@ pub enum CStatement {
     Instruction(CInstruction),
 }
 
+/// Written out, so that it is proved once.
+impl Drop for CStatement {
+    #[cycle(dropped)]
+    fn drop(self) {
+        match self {
+            CStatement::Store(_, _, _) => {}
+            CStatement::AddTo(_, _, _) => {}
+            CStatement::SetField(_, _) => {}
+            CStatement::Empty => {}
+            CStatement::Branch(_, _, _) => {}
+            CStatement::Loop(_, _, _, _) => {}
+            CStatement::Array(_, _, _) => {}
+            CStatement::Malloc(_, _, _) => {}
+            CStatement::Free(_) => {}
+            CStatement::Bind(_, _) => {}
+            CStatement::Call(_) => {}
+            CStatement::Instruction(_) => {}
+        }
+    }
+}
+
 /// Statements in order.
 #[cycle(ctree)]
-#[derive(Drop)]
 pub struct CBlock {
     statements: Vec<CStatement>,
+}
+
+/// Written out, so that it is proved once.
+impl Drop for CBlock {
+    #[cycle(dropped)]
+    fn drop(self) {
+        let CBlock { statements: _ } = self;
+    }
 }
 
 impl Model for CBlock {

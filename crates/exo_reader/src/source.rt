@@ -42,7 +42,6 @@ pub enum SourceKind {
 }
 
 /// A statement as it is written. A list of dimensions or indices is empty where none are written.
-#[derive(Drop)]
 pub enum SourceStmt {
     Pass,
     /// A condition with its branches; the second is empty where there is no `else`.
@@ -60,6 +59,23 @@ pub enum SourceStmt {
     Reduce(Text, Vec<SourceExpr>, SourceExpr),
     /// `w = x[..]` with at least one span.
     View(Text, Text, Vec<SourceCoord>),
+}
+
+/// Written out, so that it is proved once.
+impl Drop for SourceStmt {
+    fn drop(self) {
+        match self {
+            SourceStmt::Pass => {}
+            SourceStmt::If(_, _, _) => {}
+            SourceStmt::For(_, _, _, _) => {}
+            SourceStmt::Alloc(_, _, _, _) => {}
+            SourceStmt::Call(_, _) => {}
+            SourceStmt::Config(_, _, _) => {}
+            SourceStmt::Assign(_, _, _) => {}
+            SourceStmt::Reduce(_, _, _) => {}
+            SourceStmt::View(_, _, _) => {}
+        }
+    }
 }
 
 /// The type of a parameter.

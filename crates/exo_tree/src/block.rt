@@ -17,7 +17,6 @@ use std::sync::Arc;
 
 /// A statement.
 #[cycle(tree)]
-#[derive(Drop)]
 pub enum Stmt {
     /// `x[..] = e`
     Assign(Id, Indices, DataExpr),
@@ -37,20 +36,55 @@ pub enum Stmt {
     Call(ProcId, Args),
 }
 
+/// Written out as that of `Ctrl`.
+impl Drop for Stmt {
+    #[cycle(dropped)]
+    fn drop(self) {
+        match self {
+            Stmt::Assign(_, _, _) => {}
+            Stmt::Reduce(_, _, _) => {}
+            Stmt::Config(_, _) => {}
+            Stmt::Pass => {}
+            Stmt::If(_, _, _) => {}
+            Stmt::For(_, _, _, _) => {}
+            Stmt::Alloc(_, _, _, _) => {}
+            Stmt::View(_, _, _) => {}
+            Stmt::Call(_, _) => {}
+        }
+    }
+}
+
 /// Statements in their order.
 #[cycle(tree)]
-#[derive(Drop)]
 pub struct Block {
     held: Held,
+}
+
+/// Written out as that of `Ctrl`.
+impl Drop for Block {
+    #[cycle(dropped)]
+    fn drop(self) {
+        let Block { held: _ } = self;
+    }
 }
 
 /// The list of a block: its own, or one that other blocks have too and that is copied
 /// before it grows.
 #[cycle(tree)]
-#[derive(Drop)]
 enum Held {
     Own(Vec<Arc<Stmt>>),
     Shared(Arc<Vec<Arc<Stmt>>>),
+}
+
+/// Written out as that of `Ctrl`.
+impl Drop for Held {
+    #[cycle(dropped)]
+    fn drop(self) {
+        match self {
+            Held::Own(_) => {}
+            Held::Shared(_) => {}
+        }
+    }
 }
 
 impl Model for Block {

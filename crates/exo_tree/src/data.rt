@@ -4,7 +4,6 @@ use crate::list::Indices;
 use crate::number::Id;
 
 /// An expression over the cells of buffers. All is done on 32-bit signed numbers and wraps.
-#[derive(Drop)]
 pub enum DataExpr {
     Lit(i64),
     Read(Id, Indices),
@@ -16,4 +15,20 @@ pub enum DataExpr {
     Relu(Box<DataExpr>),
     /// `Select(x, v, y, z)` is `y` where `x < v`, else `z`.
     Select(Box<DataExpr>, Box<DataExpr>, Box<DataExpr>, Box<DataExpr>),
+}
+
+/// Written out as that of `Ctrl`.
+impl Drop for DataExpr {
+    fn drop(self) {
+        match self {
+            DataExpr::Lit(_) => {}
+            DataExpr::Read(_, _) => {}
+            DataExpr::Neg(_) => {}
+            DataExpr::Add(_, _) => {}
+            DataExpr::Sub(_, _) => {}
+            DataExpr::Mul(_, _) => {}
+            DataExpr::Relu(_) => {}
+            DataExpr::Select(_, _, _, _) => {}
+        }
+    }
 }

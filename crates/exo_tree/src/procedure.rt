@@ -21,9 +21,15 @@ pub struct Proc {
 }
 
 /// The procedures of a unit: those of the text, and then the versions made by steps.
-#[derive(Drop)]
 pub struct Procs {
     items: Vec<Proc>,
+}
+
+/// Written out, so that it is proved once.
+impl Drop for Procs {
+    fn drop(self) {
+        let Procs { items: _ } = self;
+    }
 }
 
 impl Model for Procs {

@@ -36,12 +36,23 @@ pub struct MemoryClass {
 }
 
 /// A unit. A procedure calls only those before it.
-#[derive(Drop)]
 pub struct Unit {
     pub procs: Procs,
     pub fields: Fields,
     pub memories: Memories,
     pub lines: Lines,
+}
+
+/// Written out, so that it is proved once.
+impl Drop for Unit {
+    fn drop(self) {
+        let Unit {
+            procs: _,
+            fields: _,
+            memories: _,
+            lines: _,
+        } = self;
+    }
 }
 
 impl Unit {

@@ -32,7 +32,6 @@ pub struct Binding {
 
 /// The versions of a schedule. They are the procedures of its unit, first those of the text; each
 /// has its origin under its number.
-#[derive(Drop)]
 pub struct Session {
     pub unit: Unit,
     pub origins: Vec<Origin>,
@@ -46,6 +45,21 @@ pub struct Session {
     pub steps: u64,
     /// The number of obligations that were shown, with those of the text.
     pub obligations: u64,
+}
+
+/// Written out, so that it is proved once.
+impl Drop for Session {
+    fn drop(self) {
+        let Session {
+            unit: _,
+            origins: _,
+            edits: _,
+            names: _,
+            emitted: _,
+            steps: _,
+            obligations: _,
+        } = self;
+    }
 }
 
 /// The number of a version; more of them than numbers are taken as want of memory.

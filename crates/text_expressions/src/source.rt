@@ -32,7 +32,6 @@ pub enum Infix {
 }
 
 /// An expression as it is written.
-#[derive(Drop)]
 pub enum SourceExpr {
     /// A literal, below 2^31.
     Int(u32),
@@ -53,4 +52,23 @@ pub enum SourceExpr {
     /// An expression in parentheses.
     Parens(Box<SourceExpr>),
     Binary(Infix, Box<SourceExpr>, Box<SourceExpr>),
+}
+
+/// Written out, so that it is proved once.
+impl Drop for SourceExpr {
+    fn drop(self) {
+        match self {
+            SourceExpr::Int(_) => {}
+            SourceExpr::Truth(_) => {}
+            SourceExpr::Name(_) => {}
+            SourceExpr::Access(_, _) => {}
+            SourceExpr::Field(_, _) => {}
+            SourceExpr::Stride(_, _) => {}
+            SourceExpr::Relu(_) => {}
+            SourceExpr::Select(_, _, _, _) => {}
+            SourceExpr::Negative(_) => {}
+            SourceExpr::Parens(_) => {}
+            SourceExpr::Binary(_, _, _) => {}
+        }
+    }
 }
