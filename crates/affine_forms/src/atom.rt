@@ -23,7 +23,6 @@ use std::marker::Model;
 use std::sync::Arc;
 
 /// What a control value is built of: a part of an expression that is kept as it is.
-#[derive(Drop)]
 pub enum Atom {
     /// A control variable.
     Variable(Id),
@@ -37,11 +36,31 @@ pub enum Atom {
     Quotient(Quotient),
 }
 
+impl Drop for Atom {
+    fn drop(self) {
+        match self {
+            Self::Variable(_)
+            | Self::EntryField(_, _)
+            | Self::UnknownField(_, _, _)
+            | Self::OpaqueStride(_, _)
+            | Self::Quotient(_) => {}
+        }
+    }
+}
+
 /// An atom with its coefficient.
-#[derive(Drop)]
 pub struct Weighed {
     pub coefficient: i128,
     pub atom: Atom,
+}
+
+impl Drop for Weighed {
+    fn drop(self) {
+        let Self {
+            coefficient: _,
+            atom: _,
+        } = self;
+    }
 }
 
 /// A weighed sum of atoms, in order of first appearance. Its coefficients are at most 2^126 in size.

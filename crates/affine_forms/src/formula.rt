@@ -13,7 +13,6 @@ use crate::sum::{Equation, Sum};
 use std::alloc::{AllocError, Global};
 
 /// What holds of atoms.
-#[derive(Drop)]
 pub enum Formula {
     /// A row: the sum is at least 0.
     AtLeastZero(Sum),
@@ -23,6 +22,14 @@ pub enum Formula {
     Both(Box<Formula>, Box<Formula>),
     /// One of them holds.
     Either(Box<Formula>, Box<Formula>),
+}
+
+impl Drop for Formula {
+    fn drop(self) {
+        match self {
+            Self::AtLeastZero(_) | Self::IsZero(_) | Self::Both(_, _) | Self::Either(_, _) => {}
+        }
+    }
 }
 
 impl Formula {

@@ -13,12 +13,22 @@ use std::alloc::AllocError;
 use std::sync::Arc;
 
 /// An atom that is no quotient.
-#[derive(Drop)]
 pub(crate) enum Leaf {
     Variable(Id),
     EntryField(FieldId, Kind),
     UnknownField(FieldId, Kind, Arc<Path>),
     OpaqueStride(Id, u32),
+}
+
+impl Drop for Leaf {
+    fn drop(self) {
+        match self {
+            Self::Variable(_)
+            | Self::EntryField(_, _)
+            | Self::UnknownField(_, _, _)
+            | Self::OpaqueStride(_, _) => {}
+        }
+    }
 }
 
 impl Leaf {

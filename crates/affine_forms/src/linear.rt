@@ -175,10 +175,18 @@ impl Draft {
 
 /// An affine form: a constant and a weighed sum of atoms, with numbers of at most 2^62 in size.
 /// Each atom stands once, with a coefficient other than 0.
-#[derive(Drop)]
 pub struct Linear {
     constant: i128,
     terms: Terms,
+}
+
+impl Drop for Linear {
+    fn drop(self) {
+        let Self {
+            constant: _,
+            terms: _,
+        } = self;
+    }
 }
 
 impl Model for Linear {

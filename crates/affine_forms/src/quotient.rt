@@ -15,10 +15,15 @@ use std::sync::Arc;
 
 /// The quotient of a constant and a sum by a literal of at least 1, rounded down.
 /// Equal quotients inside it stand once in the table that it shares with them.
-#[derive(Drop)]
 pub struct Quotient {
     table: Arc<Table>,
     index: usize,
+}
+
+impl Drop for Quotient {
+    fn drop(self) {
+        let Self { table: _, index: _ } = self;
+    }
 }
 
 impl Model for Quotient {

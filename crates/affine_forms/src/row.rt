@@ -15,10 +15,17 @@ use std::alloc::{AllocError, Global};
 use std::marker::Model;
 
 /// An atom of a row: one that is no quotient, or the quotient of an earlier row.
-#[derive(Drop)]
 pub(crate) enum Part {
     Whole(Leaf),
     Earlier(usize),
+}
+
+impl Drop for Part {
+    fn drop(self) {
+        match self {
+            Self::Whole(_) | Self::Earlier(_) => {}
+        }
+    }
 }
 
 impl Part {
@@ -76,10 +83,18 @@ impl Part {
 }
 
 /// A part with its coefficient.
-#[derive(Drop)]
 pub(crate) struct Share {
     pub(crate) coefficient: i128,
     pub(crate) part: Part,
+}
+
+impl Drop for Share {
+    fn drop(self) {
+        let Self {
+            coefficient: _,
+            part: _,
+        } = self;
+    }
 }
 
 impl Share {
@@ -186,11 +201,20 @@ fn is_same_sum(
 }
 
 /// The quotient of a constant and a sum by a literal.
-#[derive(Drop)]
 pub(crate) struct QuotientRow {
     pub(crate) constant: i128,
     pub(crate) terms: Vec<Share>,
     pub(crate) by: i64,
+}
+
+impl Drop for QuotientRow {
+    fn drop(self) {
+        let Self {
+            constant: _,
+            terms: _,
+            by: _,
+        } = self;
+    }
 }
 
 impl QuotientRow {

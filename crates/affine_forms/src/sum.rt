@@ -14,10 +14,18 @@ use std::marker::Model;
 
 /// What a row speaks of: a constant from -2^64 to 2^64 - 1, and a weighed sum with coefficients of at most 2^64 in size.
 /// Each atom stands once, with a coefficient other than 0.
-#[derive(Drop)]
 pub struct Sum {
     constant: i128,
     terms: Terms,
+}
+
+impl Drop for Sum {
+    fn drop(self) {
+        let Self {
+            constant: _,
+            terms: _,
+        } = self;
+    }
 }
 
 impl Model for Sum {
@@ -132,10 +140,18 @@ impl Sum {
 }
 
 /// What an equation speaks of: a constant of at most 2^63 in size, and a weighed sum as in a row.
-#[derive(Drop)]
 pub struct Equation {
     constant: i128,
     terms: Terms,
+}
+
+impl Drop for Equation {
+    fn drop(self) {
+        let Self {
+            constant: _,
+            terms: _,
+        } = self;
+    }
 }
 
 impl Model for Equation {

@@ -104,12 +104,21 @@ fn is_increasing(terms: &[Term]) -> bool
 }
 
 /// A sum of terms and a constant. The variables of the terms increase, so that each stands once; the constant is at most 2^100 in size.
-#[derive(PartialEq, Eq, Hash, Drop, Debug)]
+#[derive(PartialEq, Eq, Hash, Debug)]
 pub struct Row {
     pub terms: Vec<Term>,
     pub constant: i128,
     pub ghost increasing: { IsTrue (is_increasing (map (λ t. t.variable) terms.items)) },
     pub ghost narrow: { IsTrue (is_narrow constant) },
+}
+
+impl Drop for Row {
+    fn drop(self) {
+        let Self {
+            terms: _,
+            constant: _,
+        } = self;
+    }
 }
 
 impl Row {
@@ -178,7 +187,7 @@ fn are_below(n: u32, rows: &[Row]) -> bool
 }
 
 /// Equations and rows over the variables `0 .. vars`: at most 64 variables, and at most 512 equations and rows together.
-#[derive(PartialEq, Eq, Hash, Drop, Debug)]
+#[derive(PartialEq, Eq, Hash, Debug)]
 pub struct System {
     pub vars: u32,
     pub equations: Vec<Row>,
@@ -187,6 +196,16 @@ pub struct System {
     pub ghost few_rows: { length equations.items + length rows.items ≤ 512 },
     pub ghost equations_within: { IsTrue (are_below vars (map (λ r. map (λ t. t.variable) r.terms.items) equations.items)) },
     pub ghost rows_within: { IsTrue (are_below vars (map (λ r. map (λ t. t.variable) r.terms.items) rows.items)) },
+}
+
+impl Drop for System {
+    fn drop(self) {
+        let Self {
+            vars: _,
+            equations: _,
+            rows: _,
+        } = self;
+    }
 }
 
 impl System {

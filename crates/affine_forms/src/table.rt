@@ -14,9 +14,14 @@ use std::alloc::{AllocError, Global};
 use std::marker::Model;
 
 /// Quotients, each over earlier ones. One that stands already, to the letter, is not put again.
-#[derive(Drop)]
 pub(crate) struct Table {
     rows: Vec<QuotientRow>,
+}
+
+impl Drop for Table {
+    fn drop(self) {
+        let Self { rows: _ } = self;
+    }
 }
 
 impl Model for Table {

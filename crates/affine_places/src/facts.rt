@@ -10,12 +10,19 @@ use std::alloc::{AllocError, Global};
 use std::marker::Model;
 
 /// What is known of a field.
-#[derive(Drop)]
 pub enum Fact {
     /// It has the value of that expression or condition, which reads no field.
     Known(Arg),
     /// The statement at that path made its value unknown.
     Unknown(Path),
+}
+
+impl Drop for Fact {
+    fn drop(self) {
+        match self {
+            Self::Known(_) | Self::Unknown(_) => {}
+        }
+    }
 }
 
 /// A field with what is known of it.

@@ -65,10 +65,18 @@ impl Stated<'_> {
 }
 
 /// Constraints in their order, and the atoms that stand in them by first appearance.
-#[derive(Drop)]
 pub struct Gathering<'a> {
     pub atoms: Vec<Atom>,
     pub constraints: Vec<Stated<'a>>,
+}
+
+impl Drop for Gathering<'_> {
+    fn drop(self) {
+        let Self {
+            atoms: _,
+            constraints: _,
+        } = self;
+    }
 }
 
 impl<'a> Gathering<'a> {

@@ -19,7 +19,6 @@ use exo_tree::{Path, Text};
 use std::alloc::{AllocError, Global};
 
 /// A claim in one of the cases in which it might fail: it holds there if the system has no integer point.
-#[derive(Drop)]
 pub struct Obligation {
     /// What holds where the context does and the claim does not.
     pub system: System,
@@ -27,6 +26,16 @@ pub struct Obligation {
     pub what: Text,
     /// The statement that owes it.
     pub place: Path,
+}
+
+impl Drop for Obligation {
+    fn drop(self) {
+        let Self {
+            system: _,
+            what: _,
+            place: _,
+        } = self;
+    }
 }
 
 /// Puts the rows of constraints over numbered atoms last, the equations apart.

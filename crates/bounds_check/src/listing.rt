@@ -127,7 +127,6 @@ fn refusal(
 
 /// What a procedure of a unit owes, in parts: each can be dropped before the next one is made. The
 /// limits are those of the whole list.
-#[derive(Drop)]
 pub struct Listing<'u> {
     unit: &'u Unit,
     proc: &'u Proc,
@@ -139,6 +138,23 @@ pub struct Listing<'u> {
     next: usize,
     more: bool,
     amount: Amount,
+}
+
+impl Drop for Listing<'_> {
+    fn drop(self) {
+        let Self {
+            unit: _,
+            proc: _,
+            number: _,
+            writes: _,
+            modes: _,
+            roots: _,
+            sources: _,
+            next: _,
+            more: _,
+            amount: _,
+        } = self;
+    }
 }
 
 impl<'u> Listing<'u> {

@@ -8,7 +8,6 @@ use std::alloc::{AllocError, Global};
 use std::marker::Model;
 
 /// An expression over 64-bit numbers. A quotient and a remainder are by a literal, and round towards minus infinity.
-#[derive(Drop)]
 pub enum CNumber {
     Literal(i64),
     Named(String),
@@ -22,8 +21,23 @@ pub enum CNumber {
     Remainder(Box<CNumber>, i64),
 }
 
+impl Drop for CNumber {
+    fn drop(self) {
+        match self {
+            Self::Literal(_)
+            | Self::Named(_)
+            | Self::Stride(_, _)
+            | Self::Opposite(_)
+            | Self::Sum(_, _)
+            | Self::Difference(_, _)
+            | Self::Product(_, _)
+            | Self::Quotient(_, _)
+            | Self::Remainder(_, _) => {}
+        }
+    }
+}
+
 /// A condition.
-#[derive(Drop)]
 pub enum CTest {
     Always,
     Never,
@@ -38,6 +52,23 @@ pub enum CTest {
     Either(Box<CTest>, Box<CTest>),
 }
 
+impl Drop for CTest {
+    fn drop(self) {
+        match self {
+            Self::Always
+            | Self::Never
+            | Self::IsSet(_)
+            | Self::Less(_, _)
+            | Self::LessEqual(_, _)
+            | Self::More(_, _)
+            | Self::MoreEqual(_, _)
+            | Self::Equal(_, _)
+            | Self::Both(_, _)
+            | Self::Either(_, _) => {}
+        }
+    }
+}
+
 /// What a cell lies in.
 #[derive(Clone, Copy)]
 pub enum CHolder {
@@ -46,15 +77,23 @@ pub enum CHolder {
 }
 
 /// The cell of an array or a window at an offset.
-#[derive(Drop)]
 pub struct CCell {
     pub holder: CHolder,
     pub name: String,
     pub offset: Box<CNumber>,
 }
 
+impl Drop for CCell {
+    fn drop(self) {
+        let Self {
+            holder: _,
+            name: _,
+            offset: _,
+        } = self;
+    }
+}
+
 /// An expression over unsigned 32-bit numbers.
-#[derive(Drop)]
 pub enum CData {
     Literal(i64),
     Read(CCell),
@@ -67,6 +106,21 @@ pub enum CData {
     Select(Box<CData>, Box<CData>, Box<CData>, Box<CData>),
 }
 
+impl Drop for CData {
+    fn drop(self) {
+        match self {
+            Self::Literal(_)
+            | Self::Read(_)
+            | Self::Opposite(_)
+            | Self::Relu(_)
+            | Self::Sum(_, _)
+            | Self::Difference(_, _)
+            | Self::Product(_, _)
+            | Self::Select(_, _, _, _) => {}
+        }
+    }
+}
+
 /// The struct of windows of so many dimensions over cells of that type.
 #[derive(Clone, Copy)]
 pub struct CStruct {
@@ -75,15 +129,23 @@ pub struct CStruct {
 }
 
 /// A window that is made: its struct, its first cell and the stride of each dimension.
-#[derive(Drop)]
 pub struct CWindow {
     pub kind: CStruct,
     pub first: CCell,
     pub strides: Vec<CNumber>,
 }
 
+impl Drop for CWindow {
+    fn drop(self) {
+        let Self {
+            kind: _,
+            first: _,
+            strides: _,
+        } = self;
+    }
+}
+
 /// What a function is called with, or a configuration field is set to.
-#[derive(Drop)]
 pub enum CActual {
     Number(Box<CNumber>),
     Test(Box<CTest>),
@@ -94,6 +156,15 @@ pub enum CActual {
     Window(CWindow),
 }
 
+impl Drop for CActual {
+    fn drop(self) {
+        match self {
+            Self::Number(_) | Self::Test(_) | Self::Alone(_) | Self::Address(_) | Self::Window(_) =>
+                {}
+        }
+    }
+}
+
 /// The element type of an array: a cell type, or the vector type of that name, of so many cells.
 #[derive(Drop)]
 pub enum CElement {
@@ -102,31 +173,54 @@ pub enum CElement {
 }
 
 /// A call of a function.
-#[derive(Drop)]
 pub struct CCall {
     pub function: String,
     pub args: Vec<CActual>,
 }
 
+impl Drop for CCall {
+    fn drop(self) {
+        let Self {
+            function: _,
+            args: _,
+        } = self;
+    }
+}
+
 /// A piece of an instruction's line: text as it is, a control value, or a cell.
-#[derive(Drop)]
 pub enum CPiece {
     Text(String),
     Actual(CActual),
     Cell(CCell),
 }
 
+impl Drop for CPiece {
+    fn drop(self) {
+        match self {
+            Self::Text(_) | Self::Actual(_) | Self::Cell(_) => {}
+        }
+    }
+}
+
 /// An instruction: the number of its procedure, its line in pieces, and what it is called with, which is not printed.
-#[derive(Drop)]
 pub struct CInstruction {
     pub number: u32,
     pub pieces: Vec<CPiece>,
     pub args: Vec<CActual>,
 }
 
+impl Drop for CInstruction {
+    fn drop(self) {
+        let Self {
+            number: _,
+            pieces: _,
+            args: _,
+        } = self;
+    }
+}
+
 /// A statement.
 #[cycle(ctree)]
-#[derive(Drop)]
 pub enum CStatement {
     /// The cell gets the number, converted to the type.
     Store(Cell, CCell, Box<CData>),
@@ -148,11 +242,37 @@ pub enum CStatement {
     Instruction(CInstruction),
 }
 
+impl Drop for CStatement {
+    #[cycle(dropped)]
+    fn drop(self) {
+        match self {
+            Self::Store(_, _, _)
+            | Self::AddTo(_, _, _)
+            | Self::SetField(_, _)
+            | Self::Empty
+            | Self::Branch(_, _, _)
+            | Self::Loop(_, _, _, _)
+            | Self::Array(_, _, _)
+            | Self::Malloc(_, _, _)
+            | Self::Free(_)
+            | Self::Bind(_, _)
+            | Self::Call(_)
+            | Self::Instruction(_) => {}
+        }
+    }
+}
+
 /// Statements in order.
 #[cycle(ctree)]
-#[derive(Drop)]
 pub struct CBlock {
     statements: Vec<CStatement>,
+}
+
+impl Drop for CBlock {
+    #[cycle(dropped)]
+    fn drop(self) {
+        let Self { statements: _ } = self;
+    }
 }
 
 impl Model for CBlock {
@@ -223,35 +343,71 @@ impl CBlock {
 }
 
 /// A parameter of a function: a 64-bit number, the first cell of an array, or a window.
-#[derive(Drop)]
 pub enum CParam {
     Number(String),
     Array(Cell, String),
     Window(CStruct, String),
 }
 
+impl Drop for CParam {
+    fn drop(self) {
+        match self {
+            Self::Number(_) | Self::Array(_, _) | Self::Window(_, _) => {}
+        }
+    }
+}
+
 /// A function that returns nothing.
-#[derive(Drop)]
 pub struct CFunction {
     pub name: String,
     pub params: Vec<CParam>,
     pub body: CBlock,
 }
 
+impl Drop for CFunction {
+    fn drop(self) {
+        let Self {
+            name: _,
+            params: _,
+            body: _,
+        } = self;
+    }
+}
+
 /// What the report says of a function: which procedure of the text it comes from, and which fields it may leave different.
-#[derive(Drop)]
 pub struct ReportLine {
     pub name: String,
     pub origin: String,
     pub differs: Vec<String>,
 }
 
+impl Drop for ReportLine {
+    fn drop(self) {
+        let Self {
+            name: _,
+            origin: _,
+            differs: _,
+        } = self;
+    }
+}
+
 /// A file of C: the report, further headers, the structs of windows, the names of the configuration fields, the functions.
-#[derive(Drop)]
 pub struct CUnit {
     pub report: Vec<ReportLine>,
     pub includes: Vec<String>,
     pub structs: Vec<CStruct>,
     pub fields: Vec<String>,
     pub functions: Vec<CFunction>,
+}
+
+impl Drop for CUnit {
+    fn drop(self) {
+        let Self {
+            report: _,
+            includes: _,
+            structs: _,
+            fields: _,
+            functions: _,
+        } = self;
+    }
 }

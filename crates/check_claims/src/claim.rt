@@ -3,7 +3,6 @@
 use exo_tree::{Cond, Path};
 
 /// What has to hold.
-#[derive(Drop)]
 pub enum Claim {
     /// The condition holds; with how it is quoted where it is not shown.
     Is(Box<Cond>, String),
@@ -11,9 +10,22 @@ pub enum Claim {
     Apart(u32, u32),
 }
 
+impl Drop for Claim {
+    fn drop(self) {
+        match self {
+            Self::Is(_, _) | Self::Apart(_, _) => {}
+        }
+    }
+}
+
 /// A claim with the path of the statement that has to show it; the empty path for a claim of a parameter.
-#[derive(Drop)]
 pub struct Placed {
     pub place: Path,
     pub claim: Claim,
+}
+
+impl Drop for Placed {
+    fn drop(self) {
+        let Self { place: _, claim: _ } = self;
+    }
 }

@@ -11,10 +11,18 @@ use text_show::Words;
 
 /// The words of a procedure of a unit, and the extents of its names. They are gathered once, for
 /// all parts of its claims.
-#[derive(Drop)]
 pub struct Sources<'u> {
     pub(crate) words: Words<'u>,
     pub(crate) extents: Extents,
+}
+
+impl Drop for Sources<'_> {
+    fn drop(self) {
+        let Self {
+            words: _,
+            extents: _,
+        } = self;
+    }
 }
 
 impl<'u> Sources<'u> {

@@ -16,7 +16,6 @@ use schedule_run::Why;
 use std::alloc::{AllocError, Global};
 
 /// Why the work on the texts stopped, in the order of its stages.
-#[derive(Drop)]
 pub enum Stop {
     /// There was no memory.
     Memory,
@@ -40,6 +39,24 @@ pub enum Stop {
     TooWide(Name),
     /// C cannot keep this name of a function or field.
     NameClash(Name),
+}
+
+impl Drop for Stop {
+    fn drop(self) {
+        match self {
+            Self::Memory
+            | Self::Unread(_)
+            | Self::Broken(_)
+            | Self::NotListed(_, _)
+            | Self::NotShown(_, _, _)
+            | Self::NoSchedule(_)
+            | Self::AtLine(_, _, _)
+            | Self::NoVersion(_)
+            | Self::WrongMemory(_, _)
+            | Self::TooWide(_)
+            | Self::NameClash(_) => {}
+        }
+    }
 }
 
 impl From<AllocError> for Stop {

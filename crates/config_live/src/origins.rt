@@ -20,12 +20,22 @@ use std::alloc::{AllocError, Global};
 
 /// How a procedure was made: from which other one in one step, and the fields in which the two may
 /// differ from a place on. A procedure of the text has no parent; a parent has a lower number.
-#[derive(Drop)]
 pub struct Origin {
     pub parent: Option<ProcId>,
     pub place: Path,
     pub side: Side,
     pub fields: FieldList,
+}
+
+impl Drop for Origin {
+    fn drop(self) {
+        let Self {
+            parent: _,
+            place: _,
+            side: _,
+            fields: _,
+        } = self;
+    }
 }
 
 /// The fields that are surely written from a place on; none where it is not there.

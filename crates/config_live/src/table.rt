@@ -15,10 +15,18 @@ use std::alloc::{AllocError, Global};
 
 /// The fields that a call of a procedure may read before it surely writes them, and those that it
 /// surely writes, each once.
-#[derive(Drop)]
 pub struct CallFields {
     pub read_first: FieldList,
     pub surely_written: FieldList,
+}
+
+impl Drop for CallFields {
+    fn drop(self) {
+        let Self {
+            read_first: _,
+            surely_written: _,
+        } = self;
+    }
 }
 
 /// Such fields for each procedure of a unit.

@@ -14,12 +14,22 @@ use std::marker::Model;
 /// Where a step takes the statements of a procedure: it replaces so many statements from a place on
 /// by so many others, and shifts say where the replaced ones go. What lies outside stays, but for
 /// what is behind in the same block, which closes up.
-#[derive(Drop)]
 pub struct Edits {
     place: Path,
     old: u32,
     new: u32,
     shifts: Shifts,
+}
+
+impl Drop for Edits {
+    fn drop(self) {
+        let Self {
+            place: _,
+            old: _,
+            new: _,
+            shifts: _,
+        } = self;
+    }
 }
 
 impl Model for Edits {

@@ -15,12 +15,22 @@ use std::marker::Model;
 /// So many statements of one block of what a step replaces, from one on, and where the first of
 /// them goes; with `whole` they go with all below them, else by themselves. None: they are gone.
 /// Paths begin with a step by `Main` into what is replaced, or into what replaces it.
-#[derive(Drop)]
 pub struct Shift {
     pub from: Path,
     pub count: u32,
     pub whole: bool,
     pub to: Option<Path>,
+}
+
+impl Drop for Shift {
+    fn drop(self) {
+        let Self {
+            from: _,
+            count: _,
+            whole: _,
+            to: _,
+        } = self;
+    }
 }
 
 /// Shifts: the first one that covers a statement takes it, and without one it is gone.

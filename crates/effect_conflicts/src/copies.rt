@@ -130,11 +130,20 @@ pub(crate) fn copied_formula(alloc: Global, twin: &Twin<'_>, c: &Cond) -> Result
 }
 
 /// A loop in a copy, with the normal forms of its bounds.
-#[derive(Drop)]
 pub(crate) struct CopiedTurn {
     pub(crate) variable: Id,
     pub(crate) lower: Linear,
     pub(crate) upper: Linear,
+}
+
+impl Drop for CopiedTurn {
+    fn drop(self) {
+        let Self {
+            variable: _,
+            lower: _,
+            upper: _,
+        } = self;
+    }
 }
 
 /// A loop round the piece in the copy.

@@ -12,7 +12,6 @@ pub enum Mode {
 }
 
 /// A use of cells of a root, as trees: its normal forms are made where two copies are compared.
-#[derive(Drop)]
 pub struct Access<'a> {
     pub root: Id,
     pub mode: Mode,
@@ -24,11 +23,30 @@ pub struct Access<'a> {
     pub text: String,
 }
 
+impl Drop for Access<'_> {
+    fn drop(self) {
+        let Self {
+            root: _,
+            mode: _,
+            coords: _,
+            guards: _,
+            text: _,
+        } = self;
+    }
+}
+
 /// What an access touches of one dimension of its root.
-#[derive(Drop)]
 pub enum AccessCoord {
     /// One index.
     At(Linear),
     /// All from a lower end up to the end that it does not reach.
     Range(Linear, Linear),
+}
+
+impl Drop for AccessCoord {
+    fn drop(self) {
+        match self {
+            Self::At(_) | Self::Range(_, _) => {}
+        }
+    }
 }

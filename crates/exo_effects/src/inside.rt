@@ -24,10 +24,18 @@ pub(crate) struct EffectSite<'s, 'u> {
 }
 
 /// What the names of a statement stand for, and the loops and branches of the piece around it.
-#[derive(Drop)]
 pub(crate) struct Inside<'a> {
     pub(crate) parts: Parts,
     pub(crate) guards: Vec<Guard<'a>>,
+}
+
+impl Drop for Inside<'_> {
+    fn drop(self) {
+        let Self {
+            parts: _,
+            guards: _,
+        } = self;
+    }
 }
 
 /// A copy of a list of guards.

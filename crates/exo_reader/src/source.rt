@@ -42,7 +42,6 @@ pub enum SourceKind {
 }
 
 /// A statement as it is written. A list of dimensions or indices is empty where none are written.
-#[derive(Drop)]
 pub enum SourceStmt {
     Pass,
     /// A condition with its branches; the second is empty where there is no `else`.
@@ -62,8 +61,23 @@ pub enum SourceStmt {
     View(Text, Text, Vec<SourceCoord>),
 }
 
+impl Drop for SourceStmt {
+    fn drop(self) {
+        match self {
+            Self::Pass
+            | Self::If(_, _, _)
+            | Self::For(_, _, _, _)
+            | Self::Alloc(_, _, _, _)
+            | Self::Call(_, _)
+            | Self::Config(_, _, _)
+            | Self::Assign(_, _, _)
+            | Self::Reduce(_, _, _)
+            | Self::View(_, _, _) => {}
+        }
+    }
+}
+
 /// The type of a parameter.
-#[derive(Drop)]
 pub enum SourceType {
     /// `TYPE` or `TYPE[..]`; without dimensions the list is empty.
     Plain(SourceKind, Vec<SourceExpr>),
@@ -71,12 +85,29 @@ pub enum SourceType {
     Window(SourceKind, Vec<SourceExpr>),
 }
 
+impl Drop for SourceType {
+    fn drop(self) {
+        match self {
+            Self::Plain(_, _) | Self::Window(_, _) => {}
+        }
+    }
+}
+
 /// A parameter `x: TYPE @ MEMORY`.
-#[derive(Drop)]
 pub struct SourceParam {
     pub name: Text,
     pub form: SourceType,
     pub memory: Option<Text>,
+}
+
+impl Drop for SourceParam {
+    fn drop(self) {
+        let Self {
+            name: _,
+            form: _,
+            memory: _,
+        } = self;
+    }
 }
 
 /// The parameters between the parentheses, at most 32.
@@ -88,7 +119,6 @@ pub struct SourceParams {
 }
 
 /// What stands below `@proc` or `@instr`.
-#[derive(Drop)]
 pub struct SourceDef {
     pub name: Text,
     pub params: SourceParams,
@@ -96,11 +126,27 @@ pub struct SourceDef {
     pub body: Vec<SourceStmt>,
 }
 
+impl Drop for SourceDef {
+    fn drop(self) {
+        let Self {
+            name: _,
+            params: _,
+            asserts: _,
+            body: _,
+        } = self;
+    }
+}
+
 /// A field of a configuration, `NAME : TYPE`.
-#[derive(Drop)]
 pub struct SourceField {
     pub name: Text,
     pub kind: SourceKind,
+}
+
+impl Drop for SourceField {
+    fn drop(self) {
+        let Self { name: _, kind: _ } = self;
+    }
 }
 
 /// The value of an attribute.
@@ -114,14 +160,18 @@ pub enum SourceValue {
 }
 
 /// An attribute of a memory, `NAME = VALUE`.
-#[derive(Drop)]
 pub struct SourceAttribute {
     pub name: Text,
     pub value: SourceValue,
 }
 
+impl Drop for SourceAttribute {
+    fn drop(self) {
+        let Self { name: _, value: _ } = self;
+    }
+}
+
 /// What stands at the top level of a text.
-#[derive(Drop)]
 pub enum SourceItem {
     Procedure(SourceDef),
     /// The neighbouring strings of its template, and what it does.
@@ -130,4 +180,15 @@ pub enum SourceItem {
     Configuration(Text, Vec<SourceField>),
     /// A class of memories with its attributes.
     Memory(Text, Vec<SourceAttribute>),
+}
+
+impl Drop for SourceItem {
+    fn drop(self) {
+        match self {
+            Self::Procedure(_)
+            | Self::Instruction(_, _)
+            | Self::Configuration(_, _)
+            | Self::Memory(_, _) => {}
+        }
+    }
 }

@@ -9,7 +9,6 @@ use std::alloc::{AllocError, Global};
 use std::marker::Model;
 
 /// An argument of a call, or the right side of a configuration write, which is one of the first two.
-#[derive(Drop)]
 pub enum Arg {
     Ctrl(Ctrl),
     Cond(Cond),
@@ -17,6 +16,14 @@ pub enum Arg {
     Whole(Id),
     /// A window of a buffer or view.
     Window(Id, Coords),
+}
+
+impl Drop for Arg {
+    fn drop(self) {
+        match self {
+            Self::Ctrl(_) | Self::Cond(_) | Self::Whole(_) | Self::Window(_, _) => {}
+        }
+    }
 }
 
 /// The arguments of a call.

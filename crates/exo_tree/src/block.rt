@@ -17,7 +17,6 @@ use std::sync::Arc;
 
 /// A statement.
 #[cycle(tree)]
-#[derive(Drop)]
 pub enum Stmt {
     /// `x[..] = e`
     Assign(Id, Indices, DataExpr),
@@ -37,20 +36,52 @@ pub enum Stmt {
     Call(ProcId, Args),
 }
 
+impl Drop for Stmt {
+    #[cycle(dropped)]
+    fn drop(self) {
+        match self {
+            Self::Assign(_, _, _)
+            | Self::Reduce(_, _, _)
+            | Self::Config(_, _)
+            | Self::Pass
+            | Self::If(_, _, _)
+            | Self::For(_, _, _, _)
+            | Self::Alloc(_, _, _, _)
+            | Self::View(_, _, _)
+            | Self::Call(_, _) => {}
+        }
+    }
+}
+
 /// Statements in their order.
 #[cycle(tree)]
-#[derive(Drop)]
 pub struct Block {
     held: Held,
+}
+
+impl Drop for Block {
+    #[cycle(dropped)]
+    fn drop(self) {
+        let Self { held: _ } = self;
+    }
 }
 
 /// The list of a block: its own, or one that other blocks have too and that is copied
 /// before it grows.
 #[cycle(tree)]
-#[derive(Drop)]
 enum Held {
     Own(Vec<Arc<Stmt>>),
     Shared(Arc<Vec<Arc<Stmt>>>),
+}
+
+impl Drop for Held {
+    #[cycle(dropped)]
+    fn drop(self) {
+        match self {
+            Self::Own(_) => {}
+            Self::Shared(_) => {}
+        }
+    }
 }
 
 impl Model for Block {

@@ -3,7 +3,6 @@
 use crate::number::{FieldId, Id};
 
 /// An expression over sizes, indices, strides and fields. Literals are from 0 to 2^31 - 1.
-#[derive(Drop)]
 pub enum Ctrl {
     Lit(i64),
     Var(Id),
@@ -21,8 +20,24 @@ pub enum Ctrl {
     Mod(Box<Ctrl>, i64),
 }
 
+impl Drop for Ctrl {
+    fn drop(self) {
+        match self {
+            Self::Lit(_)
+            | Self::Var(_)
+            | Self::Field(_)
+            | Self::Stride(_, _)
+            | Self::Neg(_)
+            | Self::Add(_, _)
+            | Self::Sub(_, _)
+            | Self::Mul(_, _)
+            | Self::Div(_, _)
+            | Self::Mod(_, _) => {}
+        }
+    }
+}
+
 /// A condition over control values.
-#[derive(Drop)]
 pub enum Cond {
     True,
     False,
@@ -37,9 +52,34 @@ pub enum Cond {
     Or(Box<Cond>, Box<Cond>),
 }
 
+impl Drop for Cond {
+    fn drop(self) {
+        match self {
+            Self::True
+            | Self::False
+            | Self::Var(_)
+            | Self::Field(_)
+            | Self::Lt(_, _)
+            | Self::Le(_, _)
+            | Self::Gt(_, _)
+            | Self::Ge(_, _)
+            | Self::Eq(_, _)
+            | Self::And(_, _)
+            | Self::Or(_, _) => {}
+        }
+    }
+}
+
 /// One coordinate of a window: a point, or a span from its lower end up to the end that it does not reach.
-#[derive(Drop)]
 pub enum Coord {
     At(Ctrl),
     Span(Ctrl, Ctrl),
+}
+
+impl Drop for Coord {
+    fn drop(self) {
+        match self {
+            Self::At(_) | Self::Span(_, _) => {}
+        }
+    }
 }

@@ -4,7 +4,6 @@ use crate::list::Indices;
 use crate::number::Id;
 
 /// An expression over the cells of buffers. All is done on 32-bit signed numbers and wraps.
-#[derive(Drop)]
 pub enum DataExpr {
     Lit(i64),
     Read(Id, Indices),
@@ -16,4 +15,19 @@ pub enum DataExpr {
     Relu(Box<DataExpr>),
     /// `Select(x, v, y, z)` is `y` where `x < v`, else `z`.
     Select(Box<DataExpr>, Box<DataExpr>, Box<DataExpr>, Box<DataExpr>),
+}
+
+impl Drop for DataExpr {
+    fn drop(self) {
+        match self {
+            Self::Lit(_)
+            | Self::Read(_, _)
+            | Self::Neg(_)
+            | Self::Add(_, _)
+            | Self::Sub(_, _)
+            | Self::Mul(_, _)
+            | Self::Relu(_)
+            | Self::Select(_, _, _, _) => {}
+        }
+    }
 }

@@ -10,7 +10,6 @@ use std::alloc::{AllocError, Global};
 use std::marker::Model;
 
 /// What a parameter takes.
-#[derive(Drop)]
 pub enum ParamKind {
     Ctrl(Kind),
     /// A dense, row-major buffer of these dimensions in that memory.
@@ -19,11 +18,24 @@ pub enum ParamKind {
     Window(Cell, Indices, MemId),
 }
 
+impl Drop for ParamKind {
+    fn drop(self) {
+        match self {
+            Self::Ctrl(_) | Self::Tensor(_, _, _) | Self::Window(_, _, _) => {}
+        }
+    }
+}
+
 /// A parameter of a procedure.
-#[derive(Drop)]
 pub struct Param {
     pub binder: Binder,
     pub kind: ParamKind,
+}
+
+impl Drop for Param {
+    fn drop(self) {
+        let Self { binder: _, kind: _ } = self;
+    }
 }
 
 /// The parameters of a procedure.

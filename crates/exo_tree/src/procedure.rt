@@ -11,7 +11,6 @@ use std::alloc::{AllocError, Global};
 use std::marker::Model;
 
 /// A procedure. One with a template is an instruction: its C is that text.
-#[derive(Drop)]
 pub struct Proc {
     pub name: Name,
     pub params: Params,
@@ -20,10 +19,27 @@ pub struct Proc {
     pub template: Option<Text>,
 }
 
+impl Drop for Proc {
+    fn drop(self) {
+        let Self {
+            name: _,
+            params: _,
+            asserts: _,
+            body: _,
+            template: _,
+        } = self;
+    }
+}
+
 /// The procedures of a unit: those of the text, and then the versions made by steps.
-#[derive(Drop)]
 pub struct Procs {
     items: Vec<Proc>,
+}
+
+impl Drop for Procs {
+    fn drop(self) {
+        let Self { items: _ } = self;
+    }
 }
 
 impl Model for Procs {

@@ -12,17 +12,25 @@ use std::alloc::{AllocError, Global};
 use std::marker::Model;
 
 /// A field of a configuration.
-#[derive(Drop)]
 pub struct Field {
     pub config: Name,
     pub name: Name,
     pub kind: Kind,
 }
 
+impl Drop for Field {
+    fn drop(self) {
+        let Self {
+            config: _,
+            name: _,
+            kind: _,
+        } = self;
+    }
+}
+
 /// A memory. `ctype` is the C type of its vectors and `lanes` how many cells one holds, or they are empty and 0.
 /// `cell` is the cell type that it takes, or None for any. `stack` says that it stands on the stack, and `read`, `write`
 /// and `reduce` what a statement may do in it. `include` is its C header, or empty.
-#[derive(Drop)]
 pub struct MemoryClass {
     pub name: Name,
     pub ctype: Text,
@@ -35,13 +43,39 @@ pub struct MemoryClass {
     pub include: Text,
 }
 
+impl Drop for MemoryClass {
+    fn drop(self) {
+        let Self {
+            name: _,
+            ctype: _,
+            lanes: _,
+            cell: _,
+            stack: _,
+            read: _,
+            write: _,
+            reduce: _,
+            include: _,
+        } = self;
+    }
+}
+
 /// A unit. A procedure calls only those before it.
-#[derive(Drop)]
 pub struct Unit {
     pub procs: Procs,
     pub fields: Fields,
     pub memories: Memories,
     pub lines: Lines,
+}
+
+impl Drop for Unit {
+    fn drop(self) {
+        let Self {
+            procs: _,
+            fields: _,
+            memories: _,
+            lines: _,
+        } = self;
+    }
 }
 
 impl Unit {

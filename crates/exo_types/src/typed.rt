@@ -40,7 +40,6 @@ use text_lexer::place::Place;
 use text_lexer::text as lexer;
 
 /// What stands above an item: the unit so far, and the tables of its names.
-#[derive(Drop)]
 pub struct UnitBuilder<'c> {
     pub unit: Unit,
     pub procedures: NameTable<'c>,
@@ -52,6 +51,20 @@ pub struct UnitBuilder<'c> {
     pub rows: Vec<ModesRow>,
     /// The id of the next binder.
     pub next_id: u32,
+}
+
+impl Drop for UnitBuilder<'_> {
+    fn drop(self) {
+        let Self {
+            unit: _,
+            procedures: _,
+            memories: _,
+            configurations: _,
+            fields: _,
+            rows: _,
+            next_id: _,
+        } = self;
+    }
 }
 
 /// A field of a configuration, whose first token is `n`, is put last in its table and in the unit.
@@ -181,7 +194,16 @@ impl<'c> UnitBuilder<'c> {
     pub fn into_unit(self) -> Unit
         ensures { result ≡ self.entry.unit }
     {
-        self.unit
+        let Self {
+            unit,
+            procedures: _,
+            memories: _,
+            configurations: _,
+            fields: _,
+            rows: _,
+            next_id: _,
+        } = self;
+        unit
     }
 
     /// Whether a name of the top level is given already.

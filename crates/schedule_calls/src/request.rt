@@ -9,7 +9,6 @@ use text_expressions::source::SourceExpr;
 use text_lexer::text::Text;
 
 /// Where a cursor is looked for.
-#[derive(Drop)]
 pub enum Source<'a> {
     /// Under a name.
     Under(&'a Text),
@@ -17,6 +16,14 @@ pub enum Source<'a> {
     Found(&'a Text, Pattern, u32),
     /// The match of that number of a pattern in the version that the operator is given.
     Here(Pattern, u32),
+}
+
+impl Drop for Source<'_> {
+    fn drop(self) {
+        match self {
+            Self::Under(_) | Self::Found(_, _, _) | Self::Here(_, _) => {}
+        }
+    }
 }
 
 /// A cursor, and its moves from there.
@@ -40,7 +47,6 @@ pub enum Tail {
 }
 
 /// How the turns of a loop are divided into groups.
-#[derive(Drop)]
 pub struct Division {
     /// How many turns a group has.
     pub by: u32,
@@ -51,8 +57,18 @@ pub struct Division {
     pub tail: Tail,
 }
 
+impl Drop for Division {
+    fn drop(self) {
+        let Self {
+            by: _,
+            outer: _,
+            inner: _,
+            tail: _,
+        } = self;
+    }
+}
+
 /// What is asked at a cursor: an operator with its arguments behind that one.
-#[derive(Drop)]
 pub enum Change<'a> {
     Alone(CursorOperator),
     /// The control value.
@@ -81,8 +97,27 @@ pub enum Change<'a> {
     EliminateDeadCode(Option<Branch>),
 }
 
+impl Drop for Change<'_> {
+    fn drop(self) {
+        match self {
+            Self::Alone(_)
+            | Self::WithControl(_, _)
+            | Self::WithWord(_, _)
+            | Self::MultLoops(_)
+            | Self::Specialize(_)
+            | Self::CommuteExpr(_)
+            | Self::BindExpr(_, _)
+            | Self::ExpandDim(_, _)
+            | Self::StageMem(_, _, _)
+            | Self::WriteConfig(_, _, _)
+            | Self::BindConfig(_, _, _)
+            | Self::DivideLoop(_)
+            | Self::EliminateDeadCode(_) => {}
+        }
+    }
+}
+
 /// An operator with its arguments behind the first.
-#[derive(Drop)]
 pub enum Operation<'a> {
     /// At a cursor.
     At(Box<Asked<'a>>, Change<'a>),
@@ -90,6 +125,14 @@ pub enum Operation<'a> {
     Whole(WholeOperator),
     /// The new name.
     Rename(Name),
+}
+
+impl Drop for Operation<'_> {
+    fn drop(self) {
+        match self {
+            Self::At(_, _) | Self::Whole(_) | Self::Rename(_) => {}
+        }
+    }
 }
 
 /// What a line asks for; the first name is the one that is bound.

@@ -16,23 +16,34 @@ use exo_tree::{Name, Path, ProcId, Unit};
 use std::alloc::{AllocError, Global};
 
 /// What a name holds.
-#[derive(Drop)]
 pub enum Held {
     Version(ProcId),
     /// A cursor in the version of that number.
     At(ProcId, Cursor),
 }
 
+impl Drop for Held {
+    fn drop(self) {
+        match self {
+            Self::Version(_) | Self::At(_, _) => {}
+        }
+    }
+}
+
 /// A name, and what it holds from then on.
-#[derive(Drop)]
 pub struct Binding {
     pub name: Name,
     pub held: Held,
 }
 
+impl Drop for Binding {
+    fn drop(self) {
+        let Self { name: _, held: _ } = self;
+    }
+}
+
 /// The versions of a schedule. They are the procedures of its unit, first those of the text; each
 /// has its origin under its number.
-#[derive(Drop)]
 pub struct Session {
     pub unit: Unit,
     pub origins: Vec<Origin>,
@@ -46,6 +57,20 @@ pub struct Session {
     pub steps: u64,
     /// The number of obligations that were shown, with those of the text.
     pub obligations: u64,
+}
+
+impl Drop for Session {
+    fn drop(self) {
+        let Self {
+            unit: _,
+            origins: _,
+            edits: _,
+            names: _,
+            emitted: _,
+            steps: _,
+            obligations: _,
+        } = self;
+    }
 }
 
 /// The number of a version; more of them than numbers are taken as want of memory.

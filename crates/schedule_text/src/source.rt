@@ -61,19 +61,35 @@ impl Quoted {
 }
 
 /// `find(NAME, STRING)`: the match of a pattern in a version, and the moves from there.
-#[derive(Drop)]
 pub struct Found {
     pub version: Text,
     pub pattern: Quoted,
     pub moves: Moves,
 }
 
+impl Drop for Found {
+    fn drop(self) {
+        let Self {
+            version: _,
+            pattern: _,
+            moves: _,
+        } = self;
+    }
+}
+
 /// A cursor as it is written.
-#[derive(Drop)]
 pub enum CursorText {
     /// The cursor or version that a name holds, and the moves from there.
     Held(Text, Moves),
     Find(Found),
+}
+
+impl Drop for CursorText {
+    fn drop(self) {
+        match self {
+            Self::Held(_, _) | Self::Find(_) => {}
+        }
+    }
 }
 
 /// What stands behind a key.
@@ -85,7 +101,6 @@ pub enum KeyValue {
 }
 
 /// An argument of an operator.
-#[derive(Drop)]
 pub enum ArgText {
     Cursor(CursorText),
     Str(Quoted),
@@ -97,8 +112,15 @@ pub enum ArgText {
     Key(Text, KeyValue),
 }
 
+impl Drop for ArgText {
+    fn drop(self) {
+        match self {
+            Self::Cursor(_) | Self::Str(_) | Self::Int(_) | Self::Pair(_, _) | Self::Key(_, _) => {}
+        }
+    }
+}
+
 /// The arguments between parentheses, at least one.
-#[derive(Drop)]
 pub struct Arguments {
     pub first: ArgText,
     pub more: Vec<ArgText>,
@@ -106,8 +128,17 @@ pub struct Arguments {
     pub trailing: bool,
 }
 
+impl Drop for Arguments {
+    fn drop(self) {
+        let Self {
+            first: _,
+            more: _,
+            trailing: _,
+        } = self;
+    }
+}
+
 /// What a name is bound to.
-#[derive(Drop)]
 pub enum Act {
     /// What an operator of this name, other than `find`, makes of its arguments.
     Op(Text, Arguments),
@@ -116,13 +147,28 @@ pub enum Act {
     Moved(Text, Move, Moves),
 }
 
+impl Drop for Act {
+    fn drop(self) {
+        match self {
+            Self::Op(_, _) | Self::Find(_) | Self::Moved(_, _, _) => {}
+        }
+    }
+}
+
 /// What a line says.
-#[derive(Drop)]
 pub enum Statement {
     /// `NAME = ..`
     Bind(Text, Act),
     /// `emit(NAME)`
     Emit(Text),
+}
+
+impl Drop for Statement {
+    fn drop(self) {
+        match self {
+            Self::Bind(_, _) | Self::Emit(_) => {}
+        }
+    }
 }
 
 /// A line, with the number of the line of the text in which it begins, counted from 1.

@@ -82,12 +82,7 @@ fn with_body(alloc: Global, p: &Proc, name: Name, body: Block) -> Result<Proc, A
     ensures { IfOk result
         (λ q. procedure q ≡ record (procedure p.now) { name = name; body = block body }) }
 {
-    let copied = p.duplicate(alloc)?;
-    Ok(Proc {
-        name,
-        params: copied.params,
-        asserts: copied.asserts,
-        body,
-        template: copied.template,
-    })
+    let mut version = p.with_body(alloc, body)?;
+    version.name = name;
+    Ok(version)
 }

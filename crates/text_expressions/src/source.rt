@@ -32,7 +32,6 @@ pub enum Infix {
 }
 
 /// An expression as it is written.
-#[derive(Drop)]
 pub enum SourceExpr {
     /// A literal, below 2^31.
     Int(u32),
@@ -53,4 +52,22 @@ pub enum SourceExpr {
     /// An expression in parentheses.
     Parens(Box<SourceExpr>),
     Binary(Infix, Box<SourceExpr>, Box<SourceExpr>),
+}
+
+impl Drop for SourceExpr {
+    fn drop(self) {
+        match self {
+            Self::Int(_)
+            | Self::Truth(_)
+            | Self::Name(_)
+            | Self::Access(_, _)
+            | Self::Field(_, _)
+            | Self::Stride(_, _)
+            | Self::Relu(_)
+            | Self::Select(_, _, _, _)
+            | Self::Negative(_)
+            | Self::Parens(_)
+            | Self::Binary(_, _, _) => {}
+        }
+    }
 }

@@ -17,10 +17,18 @@ use std::alloc::{AllocError, Global};
 
 /// What a walk through a body knows: the names in scope, the innermost last, and the buffers of
 /// views.
-#[derive(Drop)]
 pub(crate) struct ScopeWalk<'u> {
     pub(crate) entries: Vec<ScopeEntry<'u>>,
     pub(crate) aliases: Vec<Alias>,
+}
+
+impl Drop for ScopeWalk<'_> {
+    fn drop(self) {
+        let Self {
+            entries: _,
+            aliases: _,
+        } = self;
+    }
 }
 
 impl<'u> ScopeWalk<'u> {

@@ -92,31 +92,16 @@ fn show_part<R: Threads + Sync, G: Gate>(
     }
 }
 
-/// What is shown of obligations whose parts were taken elsewhere.
-fn show_elsewhere(parts: &mut Parts, other: Showing) -> Result<(), Why>
-    ensures exact { (os : List Owed) (d : Cache)
-        → AreShown [] os d other
-        → Shows result (first_open os) }
-    ensures taken { (ss : List Constraints) (os : List Owed) (c d : Cache)
-        → AreTaken [] ss c parts.old
-        → AreShown [] os d other
-        → OnOk result (AreTaken [] (ss ++ systems_in os) c parts.new) }
-{
-    let Showing { parts: more, found } = other;
-    match found {
-        Err(why) => Err(why),
-        Ok(()) => match parts.append(more) {
-            Ok(()) => Ok(()),
-            Err(_) => Err(Why::Memory),
-        },
-    }
-}
-
 /// What is shown of obligations that come in parts. Once one is not shown, no more are decided.
-#[derive(Drop)]
 pub(crate) struct Showing {
     parts: Parts,
     found: Result<(), Why>,
+}
+
+impl Drop for Showing {
+    fn drop(self) {
+        let Self { parts: _, found: _ } = self;
+    }
 }
 
 impl Showing {
@@ -127,6 +112,7 @@ impl Showing {
     ghost use Rattle.ob_check.specs.declared.cache.Cache.{Cache};
     ghost use Rattle.ob_check.specs.Entries.{discharged};
     ghost use Rattle.ob_check.specs.Held.{held};
+    ghost use Rattle.ob_check.specs.Parts.{AreTaken};
     ghost use Rattle.unit_check.specs.Cached.{systems_in};
     ghost use Rattle.unit_check.specs.Checked.{first_open};
     ghost use Rattle.unit_check.specs.Outcomes.{Shows};
@@ -160,6 +146,26 @@ impl Showing {
         }
     }
 
+    /// What is shown of obligations whose parts were taken elsewhere: they go behind these.
+    fn put_behind(self, parts: &mut Parts) -> Result<(), Why>
+        ensures exact { (os : List Owed) (d : Cache)
+            → AreShown [] os d self
+            → Shows result (first_open os) }
+        ensures taken { (ss : List Constraints) (os : List Owed) (c d : Cache)
+            → AreTaken [] ss c parts.old
+            → AreShown [] os d self
+            → OnOk result (AreTaken [] (ss ++ systems_in os) c parts.new) }
+    {
+        let Self { parts: more, found } = self;
+        match found {
+            Err(why) => Err(why),
+            Ok(()) => match parts.append(more) {
+                Ok(()) => Ok(()),
+                Err(_) => Err(Why::Memory),
+            },
+        }
+    }
+
     /// Takes parts that were taken elsewhere, each over a cache that was empty, behind its own.
     pub(crate) fn append(&mut self, other: Showing)
         ensures { (os ps : List Owed) (c d : Cache)
@@ -168,7 +174,7 @@ impl Showing {
             → AreShown [] (os ++ ps) c self.new }
     {
         if self.found.is_ok() {
-            self.found = show_elsewhere(&mut self.parts, other);
+            self.found = other.put_behind(&mut self.parts);
         }
     }
 
@@ -184,7 +190,7 @@ impl Showing {
             → AreShown es os cache.old self
             → OnOk result (held cache.new ≡ discharged es (systems_in os)) }
     {
-        let Showing { parts, found } = self;
+        let Self { parts, found } = self;
         match found {
             Err(why) => Err(why),
             Ok(()) => match parts.end(cache) {

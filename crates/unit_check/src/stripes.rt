@@ -24,10 +24,18 @@ const PLACES: usize = 4_096;
 const MOST: usize = 32;
 
 /// A stripe of a procedure, and what is shown of what it owes.
-#[derive(Drop)]
 pub(crate) struct Shown {
     stripe: Stripe,
     showing: Showing,
+}
+
+impl Drop for Shown {
+    fn drop(self) {
+        let Self {
+            stripe: _,
+            showing: _,
+        } = self;
+    }
 }
 
 impl Shown {
@@ -43,10 +51,18 @@ impl Shown {
             → 0 < d
             → OnOk result (IsShown u p n (c + d) self.new) }
     {
-        let Shown { stripe, showing } = other;
+        let Self { stripe, showing } = other;
         self.stripe.append(stripe)?;
         self.showing.append(showing);
         Ok(())
+    }
+
+    /// The stripe, and what is shown.
+    fn into_parts(self) -> (Stripe, Showing)
+        ensures { result ≡ (self.stripe, self.showing) }
+    {
+        let Self { stripe, showing } = self;
+        (stripe, showing)
     }
 }
 
@@ -146,7 +162,7 @@ pub(crate) fn take_stripes<R: Threads + Sync, G: Gate>(
     let Ok(shown) = show_stripes(rt, alloc, listing, 0, count, gate) else {
         return None;
     };
-    let Shown { stripe, showing } = shown;
+    let (stripe, showing) = shown.into_parts();
     if stripe.has_more() {
         return None;
     }

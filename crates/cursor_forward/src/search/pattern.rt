@@ -2,7 +2,6 @@
 use exo_tree::Name;
 
 /// Which statements are meant. No name stands for any.
-#[derive(Drop)]
 pub enum Pattern {
     /// A loop over that index.
     Loop(Option<Name>),
@@ -20,6 +19,22 @@ pub enum Pattern {
     Pass,
     /// A write of a configuration's field, by the names of both.
     Config(Option<Name>, Option<Name>),
+}
+
+impl Drop for Pattern {
+    fn drop(self) {
+        match self {
+            Self::Loop(_)
+            | Self::Nest(_, _)
+            | Self::Alloc(_)
+            | Self::Assign(_)
+            | Self::Reduce(_)
+            | Self::If
+            | Self::Call(_)
+            | Self::Pass
+            | Self::Config(_, _) => {}
+        }
+    }
 }
 
 /// Which expressions of a right side are meant.

@@ -21,10 +21,18 @@ use std::alloc::{AllocError, Global};
 use text_expressions::source::SourceExpr;
 
 /// What names stand for at a place: the fields of the unit, and the names in scope.
-#[derive(Drop)]
 struct Seen<'u> {
     fields: FieldTable<'u>,
     scope: Scope<'u>,
+}
+
+impl Drop for Seen<'_> {
+    fn drop(self) {
+        let Self {
+            fields: _,
+            scope: _,
+        } = self;
+    }
 }
 
 impl<'u> Seen<'u> {

@@ -11,27 +11,54 @@ use effect_conflicts::OrderRow;
 use exo_tree::{Binder, Ctrl, Path};
 
 /// A loop round a piece.
-#[derive(Drop)]
 pub struct Header {
     pub binder: Binder,
     pub lower: Ctrl,
     pub upper: Ctrl,
 }
 
+impl Drop for Header {
+    fn drop(self) {
+        let Self {
+            binder: _,
+            lower: _,
+            upper: _,
+        } = self;
+    }
+}
+
 /// So many statements of the procedure from a path on, at a turn of each of these loops, from the outermost inwards.
-#[derive(Drop)]
 pub struct Turns {
     pub path: Path,
     pub count: u32,
     pub loops: Vec<Header>,
 }
 
+impl Drop for Turns {
+    fn drop(self) {
+        let Self {
+            path: _,
+            count: _,
+            loops: _,
+        } = self;
+    }
+}
+
 /// The turns of the second stand in this order to those of the first.
-#[derive(Drop)]
 pub struct Conflict {
     pub first: Turns,
     pub second: Turns,
     pub order: Vec<OrderRow>,
+}
+
+impl Drop for Conflict {
+    fn drop(self) {
+        let Self {
+            first: _,
+            second: _,
+            order: _,
+        } = self;
+    }
 }
 
 /// The number from which copies have variables of their own.

@@ -13,10 +13,17 @@ use std::alloc::{AllocError, Global};
 use text_show::{Words, put_condition};
 
 /// A condition that holds, or that fails.
-#[derive(Drop)]
 pub enum Fact {
     Holds(Cond),
     Fails(Cond),
+}
+
+impl Drop for Fact {
+    fn drop(self) {
+        match self {
+            Self::Holds(_) | Self::Fails(_) => {}
+        }
+    }
 }
 
 impl Fact {

@@ -13,12 +13,19 @@ use std::alloc::{AllocError, Global};
 use tree_findings::{Findings, findings_of_condition_at};
 
 /// What has to be shown.
-#[derive(Drop)]
 pub enum Need {
     /// A fact, wherever a run comes to the statement at a path.
     Says(Path, Fact),
     /// Two pieces do not meet, wherever a run comes to the statement at a path.
     Apart(Path, Box<Conflict>),
+}
+
+impl Drop for Need {
+    fn drop(self) {
+        match self {
+            Self::Says(_, _) | Self::Apart(_, _) => {}
+        }
+    }
 }
 
 /// What is found of one of them.

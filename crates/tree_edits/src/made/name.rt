@@ -128,10 +128,15 @@ fn top_names(alloc: Global, copies: Option<u32>, b: &Block) -> Result<Vec<Name>,
 }
 
 /// The names of the allocations and views at the top level of a block: those of no copy, and all.
-#[derive(Drop)]
 pub(crate) struct Tops {
     pub(crate) own: Vec<Name>,
     pub(crate) all: Vec<Name>,
+}
+
+impl Drop for Tops {
+    fn drop(self) {
+        let Self { own: _, all: _ } = self;
+    }
 }
 
 impl Tops {
