@@ -20,9 +20,14 @@ use indexmap::IndexMap;
 use std::alloc::{AllocError, Global};
 
 /// What is given for each parameter that is known.
-#[derive(Drop)]
 pub(crate) struct Determined<'a> {
     pub(crate) table: IndexMap<u32, Given<'a>>,
+}
+
+impl Drop for Determined<'_> {
+    fn drop(self) {
+        let Self { table: _ } = self;
+    }
 }
 
 impl<'a> Determined<'a> {

@@ -11,9 +11,14 @@ use indexmap::IndexMap;
 use std::alloc::{AllocError, Global};
 
 /// The block's binder that corresponds to each of the callee's.
-#[derive(Drop)]
 pub(crate) struct Partners {
     pub(crate) table: IndexMap<u32, u32>,
+}
+
+impl Drop for Partners {
+    fn drop(self) {
+        let Self { table: _ } = self;
+    }
 }
 
 impl Partners {

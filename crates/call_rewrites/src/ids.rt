@@ -15,10 +15,15 @@ use indexmap::IndexMap;
 use std::alloc::{AllocError, Global};
 
 /// The ids that were met, each with its new number; each later one is given the next.
-#[derive(Drop)]
 pub(crate) struct NewIds {
     pub(crate) table: IndexMap<u32, u32>,
     pub(crate) next: u32,
+}
+
+impl Drop for NewIds {
+    fn drop(self) {
+        let Self { table: _, next: _ } = self;
+    }
 }
 
 impl NewIds {

@@ -14,9 +14,14 @@ use indexmap::IndexMap;
 use std::alloc::{AllocError, Global};
 
 /// What is known of each field; one that is not in the table has its value at entry.
-#[derive(Drop)]
 pub(crate) struct Known<'a> {
     pub(crate) table: IndexMap<u32, Value<'a>>,
+}
+
+impl Drop for Known<'_> {
+    fn drop(self) {
+        let Self { table: _ } = self;
+    }
 }
 
 impl<'a> Known<'a> {

@@ -5,9 +5,14 @@ use std::alloc::{AllocError, Global};
 use std::marker::Model;
 
 /// The name of a procedure, a binder, a configuration, a field or a memory.
-#[derive(Drop)]
 pub struct Name {
     text: String,
+}
+
+impl Drop for Name {
+    fn drop(self) {
+        let Self { text: _ } = self;
+    }
 }
 
 impl Model for Name {
@@ -55,9 +60,14 @@ impl Name {
 }
 
 /// What a string of the unit text stands for: a template or an attribute of a memory.
-#[derive(Drop)]
 pub struct Text {
     text: String,
+}
+
+impl Drop for Text {
+    fn drop(self) {
+        let Self { text: _ } = self;
+    }
 }
 
 impl Model for Text {

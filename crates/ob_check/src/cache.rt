@@ -28,12 +28,17 @@ fn is_small(s: &System) -> bool
 
 /// The verdicts on at most 1,024 systems, of which each has at most 64 rows and equations together.
 /// Where there is no room for one more, the verdict that was not asked for the longest goes.
-#[derive(Drop)]
 pub struct Cache {
     verdicts: LruCache<System, Verdict>,
     ghost capacity: { verdicts.cap ≡ 1024 },
     ghost all_true: { All (λ e. IsTrueOf (plain_system e.0) e.1) verdicts.entries },
     ghost all_small: { All (λ e. IsTrue (is_small (plain_system e.0))) verdicts.entries },
+}
+
+impl Drop for Cache {
+    fn drop(self) {
+        let Self { verdicts: _ } = self;
+    }
 }
 
 impl Cache {

@@ -19,9 +19,14 @@ pub struct Meant {
 }
 
 /// The names in scope. It is seen as the list of them, the innermost first.
-#[derive(Drop)]
 pub struct Scope<'a> {
     table: IndexMap<&'a str, Meant>,
+}
+
+impl Drop for Scope<'_> {
+    fn drop(self) {
+        let Self { table: _ } = self;
+    }
 }
 
 impl<'a> Model for Scope<'a> {

@@ -10,9 +10,14 @@ use std::alloc::{AllocError, Global};
 use std::marker::Model;
 
 /// The fields of configurations by their names. It is seen as the list of them in their order.
-#[derive(Drop)]
 pub struct FieldTable<'a> {
     table: IndexMap<(&'a str, &'a str), Kind>,
+}
+
+impl Drop for FieldTable<'_> {
+    fn drop(self) {
+        let Self { table: _ } = self;
+    }
 }
 
 impl<'a> Model for FieldTable<'a> {
@@ -71,9 +76,14 @@ impl<'a> FieldTable<'a> {
 }
 
 /// Names that are numbered in their order: those of memories, or of procedures. It is seen as the list of them.
-#[derive(Drop)]
 pub struct NameTable<'a> {
     names: IndexSet<&'a str>,
+}
+
+impl Drop for NameTable<'_> {
+    fn drop(self) {
+        let Self { names: _ } = self;
+    }
 }
 
 impl<'a> Model for NameTable<'a> {

@@ -7,9 +7,14 @@ use std::alloc::{AllocError, Global};
 use std::marker::Model;
 
 /// A name, or what a string stands for. It is seen as the list of its bytes.
-#[derive(Drop)]
 pub struct Text {
     text: String,
+}
+
+impl Drop for Text {
+    fn drop(self) {
+        let Self { text: _ } = self;
+    }
 }
 
 impl Model for Text {

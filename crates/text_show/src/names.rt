@@ -13,9 +13,14 @@ use std::alloc::{AllocError, Global};
 use std::collections::BTreeMap;
 
 /// The name that each id has.
-#[derive(Drop)]
 pub(crate) struct ShownNames<'a> {
     table: BTreeMap<u32, &'a str>,
+}
+
+impl Drop for ShownNames<'_> {
+    fn drop(self) {
+        let Self { table: _ } = self;
+    }
 }
 
 impl<'a> ShownNames<'a> {

@@ -11,9 +11,14 @@ use std::alloc::{AllocError, Global};
 use tree_uses::mentions::Names;
 
 /// A set of ids.
-#[derive(Drop)]
 pub struct IdSet {
     pub(crate) set: IndexSet<u32>,
+}
+
+impl Drop for IdSet {
+    fn drop(self) {
+        let Self { set: _ } = self;
+    }
 }
 
 impl Names for IdSet {

@@ -28,9 +28,14 @@ pub fn is_param(params: &[Param], x: Id) -> bool
 }
 
 /// For each name of a procedure that stands for a buffer or view, what is known of it.
-#[derive(Drop)]
 pub struct NameTable {
     pub(crate) table: IndexMap<u32, Buffer>,
+}
+
+impl Drop for NameTable {
+    fn drop(self) {
+        let Self { table: _ } = self;
+    }
 }
 
 impl NameTable {

@@ -15,9 +15,14 @@ use std::alloc::{AllocError, Global};
 use std::marker::Model;
 
 /// The C names of a procedure's binders.
-#[derive(Drop)]
 pub struct NameTable {
     entries: Vec<Binder>,
+}
+
+impl Drop for NameTable {
+    fn drop(self) {
+        let Self { entries: _ } = self;
+    }
 }
 
 impl Model for NameTable {

@@ -8,10 +8,15 @@ use std::alloc::{AllocError, Global};
 use std::marker::Model;
 
 /// The names of functions and fields, and a set in which one is found at once.
-#[derive(Drop)]
 pub struct Globals<'a> {
     names: &'a [Name],
     held: NameSet<'a>,
+}
+
+impl Drop for Globals<'_> {
+    fn drop(self) {
+        let Self { names: _, held: _ } = self;
+    }
 }
 
 impl<'a> Model for Globals<'a> {

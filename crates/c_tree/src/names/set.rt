@@ -7,9 +7,14 @@ use indexmap::IndexSet;
 use std::alloc::{AllocError, Global};
 
 /// A set of names that are kept elsewhere.
-#[derive(Drop)]
 pub(crate) struct NameSet<'a> {
     set: IndexSet<&'a str>,
+}
+
+impl Drop for NameSet<'_> {
+    fn drop(self) {
+        let Self { set: _ } = self;
+    }
 }
 
 impl<'a> NameSet<'a> {
