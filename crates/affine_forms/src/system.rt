@@ -28,7 +28,7 @@ pub fn is_narrow(z: i128) -> bool
 }
 
 /// A variable with its coefficient, which is not 0 and at most 2^100 in size.
-#[derive(Clone, Copy, PartialEq, Eq, Drop, Debug)]
+#[derive(Clone, Copy, PartialEq, Eq, Drop)]
 pub struct Term {
     pub variable: u32,
     pub coefficient: i128,
@@ -104,7 +104,7 @@ fn is_increasing(terms: &[Term]) -> bool
 }
 
 /// A sum of terms and a constant. The variables of the terms increase, so that each stands once; the constant is at most 2^100 in size.
-#[derive(PartialEq, Eq, Hash, Debug)]
+#[derive(PartialEq, Eq, Hash)]
 pub struct Row {
     pub terms: Vec<Term>,
     pub constant: i128,
@@ -187,7 +187,7 @@ fn are_below(n: u32, rows: &[Row]) -> bool
 }
 
 /// Equations and rows over the variables `0 .. vars`: at most 64 variables, and at most 512 equations and rows together.
-#[derive(PartialEq, Eq, Hash, Debug)]
+#[derive(PartialEq, Eq, Hash)]
 pub struct System {
     pub vars: u32,
     pub equations: Vec<Row>,

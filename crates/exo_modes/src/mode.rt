@@ -4,7 +4,7 @@ ghost use Rattle.exo_meaning.specs.Modes.{Mode};
 ghost use Rattle.exo_modes.specs.Seen.{says};
 
 /// How a buffer is touched.
-#[derive(Clone, Copy, Debug, PartialEq, Eq)]
+#[derive(Clone, Copy, PartialEq, Eq)]
 pub struct Modes {
     pub read: bool,
     pub write: bool,

@@ -149,7 +149,7 @@ pub enum Request<'a> {
 }
 
 /// Why a line asks for nothing.
-#[derive(Clone, Copy, Debug, PartialEq, Eq)]
+#[derive(Clone, Copy, PartialEq, Eq)]
 pub enum LineFault {
     /// There is no operator of that name.
     UnknownOperator,

@@ -13,7 +13,7 @@ use rules_names::argument::ArgError;
 use std::alloc::{AllocError, AllocFailed};
 
 /// Why there is no cursor.
-#[derive(Clone, Copy, Debug, PartialEq, Eq)]
+#[derive(Clone, Copy, PartialEq, Eq)]
 pub enum Missing {
     /// No cursor has that name, the name in a `find` holds no version, or the cursor is in a
     /// version of which the given one was not made.

@@ -8,7 +8,7 @@ use crate::text::Text;
 use std::alloc::{AllocError, Global};
 
 /// How a string ends.
-#[derive(Clone, Copy, Debug, PartialEq, Eq)]
+#[derive(Clone, Copy, PartialEq, Eq)]
 pub enum Ending {
     /// With its quote.
     Closed,
@@ -27,7 +27,7 @@ pub struct Quoted {
 }
 
 /// The next part of a string.
-#[derive(Clone, Copy, Debug)]
+#[derive(Clone, Copy)]
 enum Part {
     /// A byte that it stands for, and the number of bytes that say so.
     Byte(u8, usize),

@@ -88,7 +88,7 @@ pub enum Decorator {
 }
 
 /// The value of an integer literal.
-#[derive(Clone, Copy, Debug, PartialEq, Eq)]
+#[derive(Clone, Copy, PartialEq, Eq)]
 pub enum Literal {
     /// A number up to 2^31 - 1.
     Value(u32),

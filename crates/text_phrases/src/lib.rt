@@ -8,7 +8,7 @@
 use std::alloc::{AllocError, AllocFailed};
 
 /// Why nothing was read.
-#[derive(Clone, Copy, Debug, PartialEq, Eq)]
+#[derive(Clone, Copy, PartialEq, Eq)]
 pub enum Refusal {
     /// There was no memory.
     Memory,

@@ -4,7 +4,7 @@ ghost use Rattle.std.specs.List.{list_any};
 ghost use Rattle.exo_cli.specs.Outside.Outside.{counted};
 
 /// A count that stays at the greatest number of 64 bits once it is there.
-#[derive(Clone, Copy, Debug, PartialEq, Eq)]
+#[derive(Clone, Copy, PartialEq, Eq)]
 pub(crate) struct Count(pub u64);
 
 impl Count {

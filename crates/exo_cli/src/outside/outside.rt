@@ -5,7 +5,7 @@ ghost use Rattle.exo_cli.specs.Outside.Outside.{Folder, HasBytes, IsLonger, Rose
 ghost use Rattle.exo_cli.specs.Outside.Outside.{StopsWithin};
 
 /// Why a file was not read.
-#[derive(Clone, Copy, Debug, PartialEq, Eq)]
+#[derive(Clone, Copy, PartialEq, Eq)]
 pub enum FileFault {
     /// The outside failed, or there is no file of that name.
     Failed,
@@ -39,7 +39,7 @@ pub trait Files {
 }
 
 /// A sink failed, and took nothing.
-#[derive(Clone, Copy, Debug, PartialEq, Eq)]
+#[derive(Clone, Copy, PartialEq, Eq)]
 pub struct Failed;
 
 /// What takes bytes in pieces.
