@@ -21,7 +21,7 @@ filter-past : {X : Type 0} (t : X → Bool) (xs : List X) (x : X) → t x ≡ fa
 filter-past t xs x h = filter-last t xs x false h ∙ append-nil (filter t xs)
 
 -- a number has one sign
-positive-signs : (z : ℤ) → is_positive z ≡ true → (int_eq z (pos 0) ≡ false) × (is_negative z ≡ false)
+pub positive-signs : (z : ℤ) → is_positive z ≡ true → (int_eq z (pos 0) ≡ false) × (is_negative z ≡ false)
 positive-signs z h = (zero (int_eq z (pos 0)) refl, below (is_negative z) refl)
   where
     zero : (b : Bool) → int_eq z (pos 0) ≡ b → b ≡ false
@@ -32,7 +32,7 @@ positive-signs z h = (zero (int_eq z (pos 0)) refl, below (is_negative z) refl)
     below true e = absurd (omega (arith, ints))
     below false e = refl
 
-negative-signs : (z : ℤ) → is_negative z ≡ true → (int_eq z (pos 0) ≡ false) × (is_positive z ≡ false)
+pub negative-signs : (z : ℤ) → is_negative z ≡ true → (int_eq z (pos 0) ≡ false) × (is_positive z ≡ false)
 negative-signs z h = (zero (int_eq z (pos 0)) refl, above (is_positive z) refl)
   where
     zero : (b : Bool) → int_eq z (pos 0) ≡ b → b ≡ false
