@@ -8,3 +8,4 @@ pub mod Ways
 pub mod Arrivals
 pub mod Trails
 pub mod PathSteps
+pub mod Below

@@ -1,12 +1,19 @@
-use Rattle.std.proofs.Common.{if◌then◌else◌, arith, sym, ap, ◌∙◌}
+use Rattle.std.proofs.Common.{◌≡◌, ◌+◌, zero, if◌then◌else◌, length, drop, IfOk, arith, rules, sym, ap, subst}
+use Rattle.std.proofs.Common.{◌∙◌}
+use Rattle.std.proofs.lemmas.Bool.{eq-eqb, ne_eqb}
 use Rattle.exo_tree.specs.Tree.{block}
+use Rattle.exo_tree.specs.Branches.{branch_of}
+use Rattle.exo_tree.specs.Places.{Main, Else}
+use Rattle.exo_tree.specs.PlainArgument.{argument}
+use Rattle.exo_tree.specs.PlainPlace.{branch_taken}
 use Rattle.exo_tree.specs.PlainStatement.{statement}
-use Rattle.meaning_laws.specs.KnownFields.{UnknownAt}
+use Rattle.exo_meaning.specs.Units.{step_levels}
+use Rattle.meaning_laws.specs.KnownFields.{Known, UnknownAt}
 use Rattle.config_state.specs.FieldSets.{in_table}
 use Rattle.check_facts.specs.Values.{plain_value}
-use Rattle.check_facts.specs.Walks.{telling_of, value_after}
-use Rattle.check_facts.proofs.Rooms.{room_before, short_length}
-use Rattle.check_facts.proofs.Steps.{writes_same}
+use Rattle.check_facts.specs.Walks.{telling_of, kept_value, value_after, value_at_end}
+use Rattle.check_facts.proofs.Rooms.{room_before, room_for, room_inside, rules_for, short_length, inside}
+use Rattle.check_facts.proofs.Steps.{writes_same, end_on, end_done}
 use Rattle.check_facts.proofs.after.+after.Goals as goal
 
 pub after-returns-in-For : goal.after-returns-in-For
@@ -29,3 +36,124 @@ at_end-path_in-path-requires-clause-number t c =
     let e = c.len-k-end.ensures in
     let s = short_length c.args.b.now c.requires.short in
     omega arith
+
+pub after-at_end-requires : goal.after-at_end-requires
+after-at_end-requires t c =
+    let i = inside (length c.args.path.now) Else (statement c.args.s.now) (block c.in-If.b)
+      (ap (λ s. branch_of Else (statement s)) c.in-If.is) c.requires.rules c.requires.room in
+    (search rules, (c.requires.field, (i.rules, (i.short, i.room))))
+
+pub after-at_end-requires-in-If : goal.after-at_end-requires-in-If
+after-at_end-requires-in-If t c =
+    let i = inside (length c.args.path.now) Main (statement c.args.s.now) (block c.in-If.a)
+      (ap (λ s. branch_of Main (statement s)) c.in-If.is) c.requires.rules c.requires.room in
+    (search rules, (c.requires.field, (i.rules, (i.short, i.room))))
+
+pub after-returns-in_ok-one-in-If : goal.after-returns-in_ok-one-in-If
+after-returns-in_ok-one-in-If t c =
+    let tell = telling_of c.args.basis.now in
+    let f = c.args.f.0 in
+    let path = c.args.path.now in
+    let v = plain_value c.args.value in
+    let one = c.in_ok-one-in-If.ensures in
+    let other = c.in_ok-other-in-If.ensures
+      ∙ ap (value_at_end tell f path Else zero (block c.in-If.b)) c.duplicate.ensures in
+    subst (λ s. IfOk c.kept.result (λ x. plain_value x ≡ value_after tell f path (statement s) v)) (sym c.in-If.is)
+    (subst (λ w. IfOk c.kept.result (λ x. plain_value x ≡ w)) (λ i. kept_value tell path (one i) (other i))
+    c.kept.ensures)
+
+pub after-returns-in-Call : goal.after-returns-in-Call
+after-returns-in-Call t c =
+    let g = c.args.basis.now in
+    let v = plain_value c.args.value in
+    let may = c.call_writes.ensures ∙ g.table c.in-Call.k.0 c.args.f.0 c.requires.field in
+    c.unless_written-in-Call.ensures ∙ ap (λ t. if t then UnknownAt c.args.path.now else v) may
+    ∙ sym (ap (λ s. value_after (telling_of g) c.args.f.0 c.args.path.now (statement s) v) c.in-Call.is)
+
+pub at_end-after-requires : goal.at_end-after-requires
+at_end-after-requires t c =
+    let outer = c.args.outer.now in
+    let k = c.loop-k.k in
+    let left = drop k c.args.b.now in
+    let rest = drop (k + 1) c.args.b.now in
+    let a = statement c.statement.result.now in
+    let is = c.statement.ensures.value in
+    let way = c.loop-k.invariant in
+    let rule = rules_for a left rest is way.rules in
+    let room = room_for (length outer) a left rest is way.room in
+    (search rules, (c.requires.field, (rule.0, room_inside outer c.path_in-path.result (branch_taken c.args.branch) k
+    (step_levels a) c.path_in-path.ensures room.0)))
+
+pub at_end-loop-k-preserved : goal.at_end-loop-k-preserved
+at_end-loop-k-preserved t c =
+    let tell = telling_of c.args.basis.now in
+    let f = c.args.f.0 in
+    let outer = c.args.outer.now in
+    let branch = branch_taken c.args.branch in
+    let k = c.loop-k.k in
+    let ss = c.args.b.now in
+    let left = drop k ss in
+    let rest = drop (k + 1) ss in
+    let a = statement c.statement.result.now in
+    let is = c.statement.ensures.value in
+    let way = c.loop-k.invariant in
+    record {
+      value = end_on tell f outer branch k left rest a c.path_in-path.result (plain_value c.loop-k.now)
+        (plain_value c.in_ok-now.now) (value_at_end tell f outer branch zero (block ss) (plain_value c.args.value))
+        is c.path_in-path.ensures c.in_ok-now.ensures way.value;
+      rules = (rules_for a left rest is way.rules).1;
+      room = (room_for (length outer) a left rest is way.room).1;
+    }
+
+pub at_end-returns : goal.at_end-returns
+at_end-returns t c =
+    let tell = telling_of c.args.basis.now in
+    let f = c.args.f.0 in
+    let outer = c.args.outer.now in
+    let branch = branch_taken c.args.branch in
+    let ss = c.args.b.now in
+    end_done tell f outer branch c.loop-k.k ss (plain_value c.loop-k.now)
+    (value_at_end tell f outer branch zero (block ss) (plain_value c.args.value))
+    (omega (arith, c.len-k-end.ensures, c.loop-k-test.false)) c.loop-k.invariant.value
+
+pub after-returns-in-Assign : goal.after-returns-in-Assign
+after-returns-in-Assign t c =
+    let v = plain_value c.args.value in
+    sym (ap (λ s. value_after (telling_of c.args.basis.now) c.args.f.0 c.args.path.now (statement s) v) c.in-Assign.is)
+
+pub after-returns-in-Reduce : goal.after-returns-in-Reduce
+after-returns-in-Reduce t c =
+    let v = plain_value c.args.value in
+    sym (ap (λ s. value_after (telling_of c.args.basis.now) c.args.f.0 c.args.path.now (statement s) v) c.in-Reduce.is)
+
+pub after-returns-in-Pass : goal.after-returns-in-Pass
+after-returns-in-Pass t c =
+    let v = plain_value c.args.value in
+    sym (ap (λ s. value_after (telling_of c.args.basis.now) c.args.f.0 c.args.path.now (statement s) v) c.in-Pass.is)
+
+pub after-returns-in-Alloc : goal.after-returns-in-Alloc
+after-returns-in-Alloc t c =
+    let v = plain_value c.args.value in
+    sym (ap (λ s. value_after (telling_of c.args.basis.now) c.args.f.0 c.args.path.now (statement s) v) c.in-Alloc.is)
+
+pub after-returns-in-View : goal.after-returns-in-View
+after-returns-in-View t c =
+    let v = plain_value c.args.value in
+    sym (ap (λ s. value_after (telling_of c.args.basis.now) c.args.f.0 c.args.path.now (statement s) v) c.in-View.is)
+
+-- a field that is written, and another
+pub after-returns-then-f-g : goal.after-returns-then-f-g
+after-returns-then-f-g t c =
+    let f = c.args.f.0 in
+    let v = plain_value c.args.value in
+    let w = Known (argument c.in-Config.a) in
+    ap (λ b. if b then w else v) (sym (eq-eqb f c.in-Config.g.0 c.if-f-g.true))
+    ∙ sym (ap (λ s. value_after (telling_of c.args.basis.now) f c.args.path.now (statement s) v) c.in-Config.is)
+
+pub after-returns-else-f-g : goal.after-returns-else-f-g
+after-returns-else-f-g t c =
+    let f = c.args.f.0 in
+    let v = plain_value c.args.value in
+    let w = Known (argument c.in-Config.a) in
+    ap (λ b. if b then w else v) (sym (ne_eqb f c.in-Config.g.0 c.if-f-g.false))
+    ∙ sym (ap (λ s. value_after (telling_of c.args.basis.now) f c.args.path.now (statement s) v) c.in-Config.is)

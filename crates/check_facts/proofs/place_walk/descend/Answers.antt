@@ -1,18 +1,40 @@
-use Rattle.std.proofs.Common.{◌≡◌, ◌<◌, zero, [], ◌∷◌, length, map, arith, sym, ap, ◌∙◌, subst}
-use Rattle.std.specs.Prelude.{IfOk, OnOk}
+use Rattle.std.proofs.Common.{◌≡◌, ◌+◌, ◌<◌, ◌≤◌, nat_lt, true, ◌&&◌, zero, [], ◌∷◌, length, map, arith, sym, ap, ◌∙◌}
+use Rattle.std.proofs.Common.{subst}
+use Rattle.std.specs.List.{list_all}
+use Rattle.std.specs.Prelude.{IfOk, OnOk, is_some}
+use borrow.Author.Tests.{ltb-true}
+use Rattle.exo_tree.specs.Tree.{Procedure}
 use Rattle.exo_tree.specs.Places.{opened}
 use Rattle.exo_tree.specs.PlainPlace.{branch_taken, step_taken}
 use Rattle.exo_tree.specs.PlainProcedure.{procedure}
 use Rattle.exo_tree.specs.PlainUnit.{program}
+use Rattle.exo_meaning.specs.Units.{levels, is_short}
 use Rattle.meaning_laws.specs.KnownFields.{at_entry, known_at}
 use Rattle.meaning_laws.specs.PlaceFacts.{facts_round}
-use Rattle.check_facts.specs.Contexts.{facts_from, known_at_place}
+use Rattle.affine_forms.specs.Formulas.{condition_keeps_rules}
+use Rattle.affine_places.specs.Roots.{has_extents}
+use Rattle.affine_places.specs.Rules.{block_keeps_rules, procedure_keeps_rules}
+use Rattle.check_facts.specs.Contexts.{facts_from, known_at_place, may_be_walked}
 use Rattle.check_facts.specs.Trails.{levels_of, step_to, body_in, Stand, StandIn}
 use Rattle.check_facts.specs.Walks.{telling_of, round_facts, Added}
 use Rattle.check_facts.proofs.Arrivals.{opened_first, any_branch}
 use Rattle.check_facts.proofs.Openings.{opened_within}
 use Rattle.check_facts.proofs.Ways.{found}
+use Rattle.check_facts.proofs.Rooms.{parts}
 use Rattle.check_facts.proofs.place_walk.descend.Goals as goal
+
+-- what may be walked keeps the rules, is short, and has short paths
+rules_of : (p : Procedure) → may_be_walked p ≡ true → (is_short p.body && block_keeps_rules p.body) ≡ true
+rules_of p h =
+    let all = (parts (procedure_keeps_rules p) (nat_lt (levels p.body) 33) h).0 in
+    let body = is_short p.body && block_keeps_rules p.body in
+    (parts (list_all condition_keeps_rules p.asserts) body
+    (parts (has_extents p) (list_all condition_keeps_rules p.asserts && body) all).1).1
+
+room_of : (p : Procedure) → may_be_walked p ≡ true → zero + levels p.body ≤ 32
+room_of p h =
+    let few = ltb-true (levels p.body) 33 (parts (procedure_keeps_rules p) (nat_lt (levels p.body) 33) h).1 in
+    omega arith
 
 pub bring-requires-clause-within : goal.bring-requires-clause-within
 bring-requires-clause-within c =
@@ -72,3 +94,45 @@ returns-clause-stand c =
     let stands = c.in_ok-level.ensures.stand at_entry found_in in
     subst (λ q. OnOk c.walk.result (Stand g q (body_in p.body) at_entry (levels_of c.walk.new.trail))) c.new-outer.ensures
     (c.walk.ensures.stand at_entry stands (body_in p.body) (ap (body_in p.body) main))
+
+pub bring-requires-clause-ordered : goal.bring-requires-clause-ordered
+bring-requires-clause-ordered c = c.first_level-found.ensures.index
+
+pub bring-requires-clause-rules : goal.bring-requires-clause-rules
+bring-requires-clause-rules c =
+    let p = procedure c.args.basis.now.proc.now in
+    (parts (is_short p.body) (block_keeps_rules p.body) (rules_of p c.requires.rules)).1
+
+pub bring-requires-clause-short : goal.bring-requires-clause-short
+bring-requires-clause-short c =
+    let p = procedure c.args.basis.now.proc.now in
+    (parts (is_short p.body) (block_keeps_rules p.body) (rules_of p c.requires.rules)).0
+
+pub bring-requires-clause-room : goal.bring-requires-clause-room
+bring-requires-clause-room c =
+    let p = procedure c.args.basis.now.proc.now in
+    subst (λ q. length q + levels p.body ≤ 32) (sym c.new-outer.ensures) (room_of p c.requires.rules)
+
+pub walk-requires-clause-rules : goal.walk-requires-clause-rules
+walk-requires-clause-rules c =
+    let p = procedure c.args.basis.now.proc.now in
+    (parts (is_short p.body) (block_keeps_rules p.body) (rules_of p c.requires.rules)).1
+
+pub walk-requires-clause-short : goal.walk-requires-clause-short
+walk-requires-clause-short c =
+    let p = procedure c.args.basis.now.proc.now in
+    (parts (is_short p.body) (block_keeps_rules p.body) (rules_of p c.requires.rules)).0
+
+pub walk-requires-clause-room : goal.walk-requires-clause-room
+walk-requires-clause-room c =
+    let p = procedure c.args.basis.now.proc.now in
+    subst (λ q. length q + levels p.body ≤ 32) (sym c.new-outer.ensures) (room_of p c.requires.rules)
+
+pub walk-requires-clause-place : goal.walk-requires-clause-place
+walk-requires-clause-place c =
+    let p = procedure c.args.basis.now.proc.now in
+    let s = step_taken c.args.first in
+    let rest = map step_taken c.args.steps.now in
+    let w = found (opened 1 (s ∷ rest) p.body) c.requires.place in
+    ap is_some (any_branch (step_to c.in_ok-level.level) s rest p.body c.in_ok-level.ensures.index
+    ∙ opened_first s rest p.body w.place w.is)
