@@ -1,5 +1,7 @@
 pub mod Alone
 pub mod Costs
 pub mod Examples
+mod Joined
 pub mod Pieces
 pub mod OfMade
+mod Turns

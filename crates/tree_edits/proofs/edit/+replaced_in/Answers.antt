@@ -1,13 +1,15 @@
-use Rattle.std.proofs.Common.{◌≡◌, map, ap, sym, ◌∙◌, arith}
+use Rattle.std.proofs.Common.{◌≡◌, ℕ, ◌+◌, ◌≤◌, Option, length, map, ap, sym, subst, ◌∙◌}
 use Rattle.std.proofs.lemmas.Option.{slice_get-map}
-use Rattle.std.specs.Prelude.{option_map, option_and_then}
+use Rattle.std.specs.Prelude.{option_map, option_and_then, IfOk, IfSome}
 use Rattle.exo_tree.specs.Tree.{block}
 use Rattle.exo_tree.specs.Branches.{branch_of}
 use Rattle.exo_tree.specs.PlainPlace.{branch_taken, step_taken}
 use Rattle.exo_tree.specs.PlainStatement.{statement}
+use Rattle.exo_tree.specs.declared.block.Block.{Block}
 use Rattle.exo_tree.proofs.Openings.{replaced_in}
 use Rattle.exo_tree.proofs.Edits.{if_ok, IsSpliced, spliced_is, stops, goes_on, inner_within}
-use Rattle.tree_edits.proofs.Costs.{at_block, one_there, some_there}
+use Rattle.tree_edits.proofs.Costs.{at_block, last_step, one_there, some_there}
+use Rattle.tree_edits.proofs.Joined.{nothing_made, made_further, made_aside, made_here, made_exact}
 use Rattle.tree_edits.proofs.edit.+replaced_in.Goals as goal
 
 pub returns-in-None-first-clause-with : goal.returns-in-None-first-clause-with
@@ -68,77 +70,118 @@ with_one-requires g t c =
 pub returns-in_err-replaced_in-clause-cost : goal.returns-in_err-replaced_in-clause-cost
 returns-in_err-replaced_in-clause-cost g t c =
     let rest = c.in-Some.parts.1.now in
-    omega (
-      arith,
-      c.replaced_in.ensures.cost,
-      at_block (step_taken c.in-Some.parts.0.now) (step_taken c.in-Some-first.next.now) (map step_taken c.args.path.now) (map step_taken rest) c.args.b.now c.in-Some-block.inner.now (statement c.in-Some-get.s.now)
-          (ap (map step_taken) c.in-Some.ensures.cases.0) (slice_get-map step_taken rest 0 ∙ ap (option_map step_taken) (sym c.in-Some-first.ensures.value)) (sym c.in-Some-get.ensures) (sym c.in-Some-block.ensures),
-    )
+    let all = at_block (step_taken c.in-Some.parts.0.now) (step_taken c.in-Some-first.next.now) (map step_taken
+    c.args.path.now)
+    (map step_taken rest) c.args.b.now c.in-Some-block.inner.now (statement c.in-Some-get.s.now)
+    (ap (map step_taken) c.in-Some.ensures.cases.0)
+    (slice_get-map step_taken rest 0 ∙ ap (option_map step_taken) (sym c.in-Some-first.ensures.value))
+    (sym c.in-Some-get.ensures) (sym c.in-Some-block.ensures) in
+    made_further c.args.made.now c.replaced_in.new.made _ _ _ _ _ all c.replaced_in.ensures.cost
 
 pub returns-in-None-2-clause-cost : goal.returns-in-None-2-clause-cost
 returns-in-None-2-clause-cost g t c =
     let rest = c.in-Some.parts.1.now in
-    omega (
-      arith,
-      c.replaced_in.ensures.cost,
-      at_block (step_taken c.in-Some.parts.0.now) (step_taken c.in-Some-first.next.now) (map step_taken c.args.path.now) (map step_taken rest) c.args.b.now c.in-Some-block.inner.now (statement c.in-Some-get.s.now)
-          (ap (map step_taken) c.in-Some.ensures.cases.0) (slice_get-map step_taken rest 0 ∙ ap (option_map step_taken) (sym c.in-Some-first.ensures.value)) (sym c.in-Some-get.ensures) (sym c.in-Some-block.ensures),
-    )
+    let all = at_block (step_taken c.in-Some.parts.0.now) (step_taken c.in-Some-first.next.now) (map step_taken
+    c.args.path.now)
+    (map step_taken rest) c.args.b.now c.in-Some-block.inner.now (statement c.in-Some-get.s.now)
+    (ap (map step_taken) c.in-Some.ensures.cases.0)
+    (slice_get-map step_taken rest 0 ∙ ap (option_map step_taken) (sym c.in-Some-first.ensures.value))
+    (sym c.in-Some-get.ensures) (sym c.in-Some-block.ensures) in
+    made_further c.args.made.now c.replaced_in.new.made _ _ _ _ _ all c.replaced_in.ensures.cost
 
 pub returns-in_err-with_block-clause-cost : goal.returns-in_err-with_block-clause-cost
 returns-in_err-with_block-clause-cost g t c =
     let rest = c.in-Some.parts.1.now in
-    omega (
-      arith,
-      c.replaced_in.ensures.cost,
-      c.with_block.ensures.cost,
-      at_block (step_taken c.in-Some.parts.0.now) (step_taken c.in-Some-first.next.now) (map step_taken c.args.path.now) (map step_taken rest) c.args.b.now c.in-Some-block.inner.now (statement c.in-Some-get.s.now)
-          (ap (map step_taken) c.in-Some.ensures.cases.0) (slice_get-map step_taken rest 0 ∙ ap (option_map step_taken) (sym c.in-Some-first.ensures.value)) (sym c.in-Some-get.ensures) (sym c.in-Some-block.ensures),
-    )
+    let all = at_block (step_taken c.in-Some.parts.0.now) (step_taken c.in-Some-first.next.now) (map step_taken
+    c.args.path.now)
+    (map step_taken rest) c.args.b.now c.in-Some-block.inner.now (statement c.in-Some-get.s.now)
+    (ap (map step_taken) c.in-Some.ensures.cases.0)
+    (slice_get-map step_taken rest 0 ∙ ap (option_map step_taken) (sym c.in-Some-first.ensures.value))
+    (sym c.in-Some-get.ensures) (sym c.in-Some-block.ensures) in
+    made_aside c.args.made.now c.replaced_in.new.made c.with_block.new.made _ _ _ _ _ all c.replaced_in.ensures.cost
+    c.with_block.ensures.cost
 
 pub returns-in_err-one-clause-cost : goal.returns-in_err-one-clause-cost
 returns-in_err-one-clause-cost g t c =
     let rest = c.in-Some.parts.1.now in
-    omega (
-      arith,
-      c.replaced_in.ensures.cost,
-      c.with_block.ensures.cost,
-      at_block (step_taken c.in-Some.parts.0.now) (step_taken c.in-Some-first.next.now) (map step_taken c.args.path.now) (map step_taken rest) c.args.b.now c.in-Some-block.inner.now (statement c.in-Some-get.s.now)
-          (ap (map step_taken) c.in-Some.ensures.cases.0) (slice_get-map step_taken rest 0 ∙ ap (option_map step_taken) (sym c.in-Some-first.ensures.value)) (sym c.in-Some-get.ensures) (sym c.in-Some-block.ensures),
-    )
+    let all = at_block (step_taken c.in-Some.parts.0.now) (step_taken c.in-Some-first.next.now) (map step_taken
+    c.args.path.now)
+    (map step_taken rest) c.args.b.now c.in-Some-block.inner.now (statement c.in-Some-get.s.now)
+    (ap (map step_taken) c.in-Some.ensures.cases.0)
+    (slice_get-map step_taken rest 0 ∙ ap (option_map step_taken) (sym c.in-Some-first.ensures.value))
+    (sym c.in-Some-get.ensures) (sym c.in-Some-block.ensures) in
+    made_aside c.args.made.now c.replaced_in.new.made c.with_block.new.made _ _ _ _ _ all c.replaced_in.ensures.cost
+    c.with_block.ensures.cost
 
 pub returns-in_err-with_one-clause-cost : goal.returns-in_err-with_one-clause-cost
 returns-in_err-with_one-clause-cost g t c =
     let rest = c.in-Some.parts.1.now in
-    omega (
-      arith,
-      c.replaced_in.ensures.cost,
-      c.with_block.ensures.cost,
-      c.with_one.ensures.cost,
-      at_block (step_taken c.in-Some.parts.0.now) (step_taken c.in-Some-first.next.now) (map step_taken c.args.path.now) (map step_taken rest) c.args.b.now c.in-Some-block.inner.now (statement c.in-Some-get.s.now)
-          (ap (map step_taken) c.in-Some.ensures.cases.0) (slice_get-map step_taken rest 0 ∙ ap (option_map step_taken) (sym c.in-Some-first.ensures.value)) (sym c.in-Some-get.ensures) (sym c.in-Some-block.ensures),
-    )
+    let all = at_block (step_taken c.in-Some.parts.0.now) (step_taken c.in-Some-first.next.now) (map step_taken
+    c.args.path.now)
+    (map step_taken rest) c.args.b.now c.in-Some-block.inner.now (statement c.in-Some-get.s.now)
+    (ap (map step_taken) c.in-Some.ensures.cases.0)
+    (slice_get-map step_taken rest 0 ∙ ap (option_map step_taken) (sym c.in-Some-first.ensures.value))
+    (sym c.in-Some-get.ensures) (sym c.in-Some-block.ensures) in
+    made_here c.args.made.now c.replaced_in.new.made c.with_block.new.made c.with_one.new.made _ _ _ _ _ all
+    c.replaced_in.ensures.cost
+    c.with_block.ensures.cost c.with_one.ensures.cost
 
 pub returns-clause-cost : goal.returns-clause-cost
 returns-clause-cost g t c =
     let rest = c.in-Some.parts.1.now in
-    omega (
-      arith,
-      c.replaced_in.ensures.cost,
-      c.with_block.ensures.cost,
-      c.with_one.ensures.cost,
-      at_block (step_taken c.in-Some.parts.0.now) (step_taken c.in-Some-first.next.now) (map step_taken c.args.path.now) (map step_taken rest) c.args.b.now c.in-Some-block.inner.now (statement c.in-Some-get.s.now)
-          (ap (map step_taken) c.in-Some.ensures.cases.0) (slice_get-map step_taken rest 0 ∙ ap (option_map step_taken) (sym c.in-Some-first.ensures.value)) (sym c.in-Some-get.ensures) (sym c.in-Some-block.ensures),
-    )
+    let all = at_block (step_taken c.in-Some.parts.0.now) (step_taken c.in-Some-first.next.now) (map step_taken
+    c.args.path.now)
+    (map step_taken rest) c.args.b.now c.in-Some-block.inner.now (statement c.in-Some-get.s.now)
+    (ap (map step_taken) c.in-Some.ensures.cases.0)
+    (slice_get-map step_taken rest 0 ∙ ap (option_map step_taken) (sym c.in-Some-first.ensures.value))
+    (sym c.in-Some-get.ensures) (sym c.in-Some-block.ensures) in
+    made_here c.args.made.now c.replaced_in.new.made c.with_block.new.made c.with_one.new.made _ _ _ _ _ all
+    c.replaced_in.ensures.cost
+    c.with_block.ensures.cost c.with_one.ensures.cost
 
 pub returns-clause-exact : goal.returns-clause-exact
 returns-clause-exact g t c =
     let rest = c.in-Some.parts.1.now in
-    omega (
-      arith,
-      some_there c.in_ok-replaced_in.field-0 c.in-Some-2.changed _ c.in-Some-2.is c.in_ok-replaced_in.ensures.exact,
-      c.with_block.ensures.cost,
-      c.in_ok-with_one.ensures.exact,
-      at_block (step_taken c.in-Some.parts.0.now) (step_taken c.in-Some-first.next.now) (map step_taken c.args.path.now) (map step_taken rest) c.args.b.now c.in-Some-block.inner.now (statement c.in-Some-get.s.now)
-          (ap (map step_taken) c.in-Some.ensures.cases.0) (slice_get-map step_taken rest 0 ∙ ap (option_map step_taken) (sym c.in-Some-first.ensures.value)) (sym c.in-Some-get.ensures) (sym c.in-Some-block.ensures),
-    )
+    let all = at_block (step_taken c.in-Some.parts.0.now) (step_taken c.in-Some-first.next.now) (map step_taken
+    c.args.path.now)
+    (map step_taken rest) c.args.b.now c.in-Some-block.inner.now (statement c.in-Some-get.s.now)
+    (ap (map step_taken) c.in-Some.ensures.cases.0)
+    (slice_get-map step_taken rest 0 ∙ ap (option_map step_taken) (sym c.in-Some-first.ensures.value))
+    (sym c.in-Some-get.ensures) (sym c.in-Some-block.ensures) in
+    made_exact c.args.made.now c.replaced_in.new.made c.with_block.new.made c.with_one.new.made c.args.count _ _ _ _ _
+    all
+    (some_there c.in_ok-replaced_in.field-0 c.in-Some-2.changed _ c.in-Some-2.is c.in_ok-replaced_in.ensures.exact)
+    c.with_block.ensures.cost c.in_ok-with_one.ensures.exact
+
+pub returns-in-None-clause-cost : goal.returns-in-None-clause-cost
+returns-in-None-clause-cost g t c =
+    nothing_made _ _ _
+
+pub returns-in-None-get-clause-cost : goal.returns-in-None-get-clause-cost
+returns-in-None-get-clause-cost g t c =
+    nothing_made _ _ _
+
+pub returns-in-None-block-clause-cost : goal.returns-in-None-block-clause-cost
+returns-in-None-block-clause-cost g t c =
+    nothing_made _ _ _
+
+pub returns-in-None-first-clause-cost : goal.returns-in-None-first-clause-cost
+returns-in-None-first-clause-cost g t c =
+    let rest = c.in-Some.parts.1.now in
+    let all = last_step (step_taken c.in-Some.parts.0.now) (map step_taken c.args.path.now) (map step_taken rest)
+    c.args.b.now
+    (ap (map step_taken) c.in-Some.ensures.cases.0)
+    (slice_get-map step_taken rest 0 ∙ ap (option_map step_taken) (sym c.in-None-first.ensures.value)) in
+    subst (λ (n : ℕ). c.spliced.new.made ≤ c.args.made.now + n + length c.args.with.now) (sym all)
+    c.spliced.ensures.cost
+
+pub returns-in-None-first-clause-exact : goal.returns-in-None-first-clause-exact
+returns-in-None-first-clause-exact g t c =
+    let rest = c.in-Some.parts.1.now in
+    let all = last_step (step_taken c.in-Some.parts.0.now) (map step_taken c.args.path.now) (map step_taken rest)
+    c.args.b.now
+    (ap (map step_taken) c.in-Some.ensures.cases.0)
+    (slice_get-map step_taken rest 0 ∙ ap (option_map step_taken) (sym c.in-None-first.ensures.value)) in
+    subst
+    (λ (n : ℕ). IfOk c.spliced.result (λ (x : Option Block). IfSome x (λ _. c.spliced.new.made + c.args.count
+    ≡ c.args.made.now + n + length c.args.with.now))) (sym all) c.spliced.ensures.exact
