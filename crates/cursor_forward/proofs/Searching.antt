@@ -1,7 +1,8 @@
 -- A search through the statements of a block passes its matches one by one.
-use Rattle.std.proofs.Common.{◌≡◌, ℕ, zero, suc, ◌+◌, ◌-◌, ◌<◌, ◌≤◌, true, List, [], ◌∷◌, ◌++◌, length, drop, Option, Some, None, refl, ap, sym, ◌∙◌, subst, arith, length-append}
+use Rattle.std.proofs.Common.{◌≡◌, ℕ, zero, suc, ◌+◌, ◌-◌, ◌<◌, ◌≤◌, true, List, [], ◌∷◌, ◌++◌, length, drop}
+use Rattle.std.proofs.Common.{Option, Some, None, true≢false, refl, ap, sym, ◌∙◌, subst, arith, length-append}
 use Rattle.std.proofs.lemmas.List.{drop_all}
-use Rattle.std.specs.Prelude.{slice_get, max, ◌&&◌, ◌^◌, nat_lt}
+use Rattle.std.specs.Prelude.{IsNone, slice_get, max, ◌&&◌, ◌^◌, nat_lt}
 use Rattle.exo_tree.specs.Tree.{Statement, block, statements, Program}
 use Rattle.exo_tree.specs.Heights.{height, height_below}
 use Rattle.exo_tree.specs.Places.{Branch, Path, path_below}
@@ -34,6 +35,16 @@ passed_by (x ∷ xs) (suc n) h = omega (arith, passed_by xs n h)
 
 pub passed_both : (xs ys : List Path) (n : ℕ) → n - length xs - length ys ≡ n - length (xs ++ ys)
 passed_both xs ys n = omega (arith, length-append xs ys)
+
+-- what was found is among all of them
+pub found_there : (xs ys : List Path) (n : ℕ) (o : Option Path) → o ≡ slice_get xs n → (o ≡ None → ⊥)
+    → o ≡ slice_get (xs ++ ys) n
+found_there xs ys n None h k = absurd (k refl)
+found_there xs ys n (Some p) h k = sym (among_first xs ys n p (sym h))
+
+pub not_none : (o : Option Path) → (o ≡ None → ⊥) → IsNone o → ⊥
+not_none None k h = k refl
+not_none (Some p) k h = true≢false h
 
 -- ---- a walk over a block
 

@@ -190,6 +190,18 @@ module _ (fits : Bool) (ctx : List Formula) (order : Order) (place : Path) where
   pub gone_wrong : (f : FormError) (old out : List Owed) (all left pairs more : List (Access × Access)) → GoesOn old all out left → left ≡ pairs ++ more → ((rest : List (Access × Access)) → IsFault f (behind out (pairs ++ rest))) → (rest : List (Access × Access)) → IsFault f (behind old (all ++ rest))
   gone_wrong f old out all left pairs more h e k rest = subst (IsFault f) (sym (split old out all left pairs more h e rest)) (k (more ++ rest))
 
+  -- what is left begins with pairs that are owed
+  pub goes_further : (old out new : List Owed) (all left pairs more : List (Access × Access)) → GoesOn old all out left
+      → left ≡ pairs ++ more → ((rest : List (Access × Access)) → behind out (pairs ++ rest) ≡ behind new rest)
+      → GoesOn old all new more
+  goes_further old out new all left pairs more h e k rest = split old out all left pairs more h e rest
+      ∙ k (more ++ rest)
+
+  -- nothing is left
+  pub goes_to_end : (old out : List Owed) (all left : List (Access × Access)) → GoesOn old all out left → left ≡ []
+      → (rest : List (Access × Access)) → behind old (all ++ rest) ≡ behind out rest
+  goes_to_end old out all left h e rest = h rest ∙ ap (λ ps. behind out (ps ++ rest)) e
+
   pub left_owes : {A : Type 0} (r : Result A FormError) (e : FormError) (pairs : List (Access × Access)) (old new : List Owed) → IsErrAnd r (λ x. x ≡ e) → ((rest : List (Access × Access)) → IsFault e (behind old (pairs ++ rest))) → Owes fits ctx order place r pairs old new
   left_owes (Ok t) e pairs old new is h = absurd is
   left_owes (Err f) e pairs old new is h = subst (λ y. (rest : List (Access × Access)) → IsFault y (behind old (pairs ++ rest))) (sym is) h
