@@ -1,9 +1,9 @@
-use Rattle.std.proofs.Common.{ap, subst}
+use Rattle.std.proofs.Common.{refl, ap, sym, ◌∙◌, subst}
 use Rattle.exo_tree.specs.Tree.{Procedure, Program}
 use Rattle.exo_tree.specs.PlainProcedure.{procedure}
 use Rattle.exo_tree.specs.PlainUnit.{program}
 use Rattle.affine_forms.specs.Outcomes.{IsWide}
-use Rattle.check_facts.specs.Contexts.{context_fits}
+use Rattle.check_facts.specs.Contexts.{context_fits, context_of, facts_of}
 use Rattle.check_claims.specs.PlainClaim.{placed}
 use Rattle.bounds_check.specs.Laws.{claim_keeps_rules}
 use Rattle.bounds_check.specs.Paths.{same_path}
@@ -29,6 +29,20 @@ pub put_claim-requires-clause-rules : goal.put_claim-requires-clause-rules
 put_claim-requires-clause-rules c =
     each_at (λ d. claim_keeps_rules d.claim) placed c.args.claims.now c.loop-c.c-index c.c-item.result c.c-item.is
     c.loop-c-test.true c.requires.rules
+
+pub put_claim-requires-clause-told : goal.put_claim-requires-clause-told
+put_claim-requires-clause-told c =
+    let place = c.args.place.now in
+    let same = c.requires.walk in
+    let made = c.in_ok-context.ensures.made in
+    record {
+      formed = c.requires.site.formed;
+      fields_are = refl;
+      roots_are = c.requires.site.roots;
+      facts_are = made.1.1 ∙ ap (λ (it : Program × Procedure). facts_of it.0 it.1 place) same;
+      context_is = made.1.0 ∙ ap (λ (it : Program × Procedure). context_of it.0 it.1 place) same;
+      fits_is = ap (λ (it : Program × Procedure). context_fits it.0 it.1 place) (sym same) ∙ made.0;
+    }
 
 pub returns-in_err-put_claim-clause-owes : goal.returns-in_err-put_claim-clause-owes
 returns-in_err-put_claim-clause-owes c =

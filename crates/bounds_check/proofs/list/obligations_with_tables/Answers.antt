@@ -1,4 +1,4 @@
-use Rattle.std.proofs.Common.{rules, ◌≡◌, Option, Some, map, slice_get, sym, ap, ◌∙◌, subst}
+use Rattle.std.proofs.Common.{◌≡◌, [], Option, None, Some, map, slice_get, sym, ap, ◌∙◌, subst}
 use Rattle.std.specs.List.{list_all}
 use Rattle.exo_tree.specs.Tree.{Procedure}
 use Rattle.exo_tree.specs.PlainProcedure.{procedure}
@@ -13,7 +13,8 @@ use Rattle.bounds_check.proofs.list.obligations_with_tables.Goals as goal
 
 pub of-requires : goal.of-requires
 of-requires g c =
-    let found : slice_get (program c.args.unit.now).procedures c.args.p.0 ≡ Some (procedure c.in-Some.proc.now) = search rules in
+    let found : slice_get (program c.args.unit.now).procedures c.args.p.0 ≡ Some (procedure c.in-Some.proc.now) =
+    sym c.in-Some.ensures in
     extents_there (procedure c.in-Some.proc.now)
     (walked c.well_formed_procedures_may_be_walked.ensures (program c.args.unit.now) c.args.p.0 (procedure c.in-Some.proc.now)
     c.requires.unit found)
@@ -22,7 +23,7 @@ pub listed-requires-clause-site : goal.listed-requires-clause-site
 listed-requires-clause-site g c _ _ =
     let u = program c.args.unit.now in
     let p = procedure c.in-Some.proc.now in
-    let found : slice_get u.procedures c.args.p.0 ≡ Some p = search rules in
+    let found : slice_get u.procedures c.args.p.0 ≡ Some p = sym c.in-Some.ensures in
     record {
       numbered = few_fields u c.requires.unit;
       formed = unit_formed u c.args.p.0 p c.requires.unit found;
@@ -35,16 +36,20 @@ pub listed-requires-clause-owable : goal.listed-requires-clause-owable
 listed-requires-clause-owable g c _ _ =
     let u = program c.args.unit.now in
     let p = procedure c.in-Some.proc.now in
-    let found : slice_get u.procedures c.args.p.0 ≡ Some p = search rules in
-    let all : map placed c.deref.result.now ≡ claims_of u p = search rules in
+    let found : slice_get u.procedures c.args.p.0 ≡ Some p = sym c.in-Some.ensures in
+    let all : map placed c.deref.result.now ≡ claims_of u p =
+    ap (map placed) c.deref.ensures.value ∙ c.in_ok-claims-in-Some.ensures
+    ∙ ap (λ (o : Option Procedure). elim o [ None ↦ [] | Some q ↦ claims_of u q ]) found in
     ap (list_all (may_be_owed p)) all ∙ c.claims_may_be_owed.ensures u c.args.p.0 p c.requires.unit found
 
 pub returns-in_ok-claims-in-Some : goal.returns-in_ok-claims-in-Some
 returns-in_ok-claims-in-Some g c =
     let u = program c.args.unit.now in
     let p = procedure c.in-Some.proc.now in
-    let found : slice_get u.procedures c.args.p.0 ≡ Some p = search rules in
-    let all : map placed c.deref.result.now ≡ claims_of u p = search rules in
+    let found : slice_get u.procedures c.args.p.0 ≡ Some p = sym c.in-Some.ensures in
+    let all : map placed c.deref.result.now ≡ claims_of u p =
+    ap (map placed) c.deref.ensures.value ∙ c.in_ok-claims-in-Some.ensures
+    ∙ ap (λ (o : Option Procedure). elim o [ None ↦ [] | Some q ↦ claims_of u q ]) found in
     let answer = c.listed.result in
     subst (λ (o : Option Procedure). AreObligationsIn answer u o) (sym found)
     (all_owed u p (map placed c.deref.result.now) answer all c.listed.ensures)
