@@ -73,7 +73,7 @@ module _ (g : Basis) (outer path : Path) (l : Level) (n : Step) (rest : Path) (x
         let known = head g outer path l xs a first in
         let w = onward tell outer (branch_taken l.branch) (step_to l) n rest xs others a path o first at is_path way in
         let there = onward_in tell outer (branch_taken l.branch) n.branch (n ∷ rest) path a inner o first
-          (before g outer l xs first) is_block w in
+        (before g outer l xs first) is_block w in
         subst (λ s. (p : Opened) → opened_in 1 (s ∷ rest) inner ≡ Some p
         → facts ≡ facts_from zero g.count (known_at tell path s.branch zero p.around p.piece known)) same told w.inner
         there ∙ ap (facts_from zero g.count) (sym w.known_there)
@@ -88,9 +88,9 @@ module _ (g : Basis) (outer path : Path) (l : Level) (n : Step) (rest : Path) (x
         let known = head g outer path l xs a first in
         let w = onward tell outer (branch_taken l.branch) (step_to l) n rest xs others a path o first at is_path way in
         let there = onward_in tell outer (branch_taken l.branch) n.branch (n ∷ rest) path a inner o first now
-          is_block w in
+        is_block w in
         let more = subst (λ s. (p : Opened) → opened_in 1 (s ∷ rest) inner ≡ Some p
-          → Came g (facts_round tell path s.branch zero p.around p.piece known) middle new) same told w.inner there in
+        → Came g (facts_round tell path s.branch zero p.around p.piece known) middle new) same told w.inner there in
         subst (λ es. Came g es old new) (sym w.facts)
         (added_more (Ok (tt {0})) g (entered n.branch a now)
         (facts_round tell path n.branch zero w.inner.around w.inner.piece known) old middle new came more)
@@ -107,10 +107,10 @@ module _ (g : Basis) (outer path : Path) (l : Level) (n : Step) (rest : Path) (x
         let known = head g outer path l xs a first in
         let w = onward tell outer (branch_taken l.branch) (step_to l) n rest xs others a path o first at is_path way in
         let there = onward_in tell outer (branch_taken l.branch) n.branch (n ∷ rest) path a inner o first now
-          is_block w in
+        is_block w in
         let wide = subst (λ s. (p : Opened) → opened_in 1 (s ∷ rest) inner ≡ Some p
-          → IsWide e (all_fit (program g.unit.now) (procedure g.proc.now)
-          (facts_round tell path s.branch zero p.around p.piece known))) same told w.inner there in
+        → IsWide e (all_fit (program g.unit.now) (procedure g.proc.now)
+        (facts_round tell path s.branch zero p.around p.piece known))) same told w.inner there in
         subst (λ es. IsWide e (all_fit (program g.unit.now) (procedure g.proc.now) es)) (sym w.facts)
         (refused_second g (entered n.branch a now)
         (facts_round tell path n.branch zero w.inner.around w.inner.piece known) old middle e came wide)

@@ -27,21 +27,21 @@ begun_by blocks end tokens first = record {
 }
 
 begun_none : (blocks : List ℕ) (end : Place) (tokens : List Placed) → None ≡ slice_get tokens 0 →
-  begun blocks end tokens ≡ unchanged blocks tokens
+    begun blocks end tokens ≡ unchanged blocks tokens
 begun_none blocks end [] is = refl
 begun_none blocks end (p ∷ more) is = cc (is)
 
 begun_foreign : (blocks : List ℕ) (end : Place) (tokens : List Placed) (first : Placed) →
-  Some first ≡ slice_get tokens 0 → true ≡ is_foreign first.token →
-  begun blocks end tokens ≡ unchanged blocks tokens
+    Some first ≡ slice_get tokens 0 → true ≡ is_foreign first.token →
+    begun blocks end tokens ≡ unchanged blocks tokens
 begun_foreign blocks end [] first is foreign = cc (is)
 begun_foreign blocks end (p ∷ more) first is foreign =
     let e : first ≡ p = cc in
     cond_true (is_foreign p.token) _ _ (foreign ∙ ap (λ (q : Placed). is_foreign q.token) e)
 
 begun_some : (blocks : List ℕ) (end : Place) (tokens : List Placed) (first : Placed) →
-  Some first ≡ slice_get tokens 0 → false ≡ is_foreign first.token →
-  begun blocks end tokens ≡ begun_by blocks end tokens first
+    Some first ≡ slice_get tokens 0 → false ≡ is_foreign first.token →
+    begun blocks end tokens ≡ begun_by blocks end tokens first
 begun_some blocks end [] first is known = cc (is)
 begun_some blocks end (p ∷ more) first is known =
     let e : first ≡ p = cc in
@@ -50,38 +50,38 @@ begun_some blocks end (p ∷ more) first is known =
 
 -- a line that is no import
 laid_begun : (line : ℕ) (blocks bytes : List ℕ) (tokens : List Placed) (l : Laid) → false ≡ is_import bytes →
-  tokens ≡ line_tokens line bytes → begun blocks (at line (length bytes + 1)) tokens ≡ l →
-  laid line blocks 0 bytes ≡ l
+    tokens ≡ line_tokens line bytes → begun blocks (at line (length bytes + 1)) tokens ≡ l →
+    laid line blocks 0 bytes ≡ l
 laid_begun line blocks bytes tokens l other is gives =
     cond_false (is_import bytes) _ _ other
     ∙ ap (λ (ts : List Placed). begun blocks (at line (length bytes + 1)) ts) (sym is) ∙ gives
 
 -- an import
 pub laid_import : (line : ℕ) (blocks bytes : List ℕ) → true ≡ is_import bytes →
-  laid line blocks 0 bytes ≡ unchanged blocks []
+    laid line blocks 0 bytes ≡ unchanged blocks []
 laid_import line blocks bytes is = cond_true (is_import bytes) _ _ is
 
 -- a line without tokens
 pub laid_none : (line : ℕ) (blocks bytes : List ℕ) (tokens read : List Placed) → false ≡ is_import bytes →
-  tokens ≡ line_tokens line bytes → read ≡ tokens → None ≡ slice_get read 0 →
-  laid line blocks 0 bytes ≡ unchanged blocks tokens
+    tokens ≡ line_tokens line bytes → read ≡ tokens → None ≡ slice_get read 0 →
+    laid line blocks 0 bytes ≡ unchanged blocks tokens
 laid_none line blocks bytes tokens read other is same none =
     laid_begun line blocks bytes tokens _ other is
     (begun_none blocks _ tokens (none ∙ ap (λ (ts : List Placed). slice_get ts 0) same))
 
 -- a foreign byte first
 pub laid_foreign : (line : ℕ) (blocks bytes : List ℕ) (tokens read : List Placed) (first : Placed) →
-  false ≡ is_import bytes → tokens ≡ line_tokens line bytes → read ≡ tokens → Some first ≡ slice_get read 0 →
-  true ≡ is_foreign first.token → laid line blocks 0 bytes ≡ unchanged blocks tokens
+    false ≡ is_import bytes → tokens ≡ line_tokens line bytes → read ≡ tokens → Some first ≡ slice_get read 0 →
+    true ≡ is_foreign first.token → laid line blocks 0 bytes ≡ unchanged blocks tokens
 laid_foreign line blocks bytes tokens read first other is same some foreign =
     laid_begun line blocks bytes tokens _ other is
     (begun_foreign blocks _ tokens first (some ∙ ap (λ (ts : List Placed). slice_get ts 0) same) foreign)
 
 -- another token first
 pub laid_some : (line : ℕ) (blocks bytes : List ℕ) (tokens read : List Placed) (first : Placed) →
-  false ≡ is_import bytes → tokens ≡ line_tokens line bytes → read ≡ tokens → Some first ≡ slice_get read 0 →
-  false ≡ is_foreign first.token →
-  laid line blocks 0 bytes ≡ begun_by blocks (at line (length bytes + 1)) tokens first
+    false ≡ is_import bytes → tokens ≡ line_tokens line bytes → read ≡ tokens → Some first ≡ slice_get read 0 →
+    false ≡ is_foreign first.token →
+    laid line blocks 0 bytes ≡ begun_by blocks (at line (length bytes + 1)) tokens first
 laid_some line blocks bytes tokens read first other is same some known =
     laid_begun line blocks bytes tokens _ other is
     (begun_some blocks _ tokens first (some ∙ ap (λ (ts : List Placed). slice_get ts 0) same) known)

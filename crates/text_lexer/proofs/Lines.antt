@@ -43,9 +43,9 @@ line_next line start bytes lexeme done within no_blank no_comment is progress so
 
 -- a blank
 pub line_blank : (line start : ℕ) (bytes : List ℕ) (done : List Placed) → start < length bytes →
-  get_or bytes start 0 ≡ 0x20 → line_tokens line bytes ≡ done ++ up_to_fault (tokens_in line (start + 1) 0 (drop start
+    get_or bytes start 0 ≡ 0x20 → line_tokens line bytes ≡ done ++ up_to_fault (tokens_in line (start + 1) 0 (drop start
     bytes)) →
-  line_tokens line bytes ≡ done ++ up_to_fault (tokens_in line (start + 1 + 1) 0 (drop (start + 1) bytes))
+    line_tokens line bytes ≡ done ++ up_to_fault (tokens_in line (start + 1 + 1) 0 (drop (start + 1) bytes))
 line_blank line start bytes done within blank so_far =
     let b = get_or bytes start 0 in
     let one : tokens_in line (start + 1) 0 (b ∷ drop (suc start) bytes) ≡ tokens_in line (start + 1 + 1) 0 (drop (suc
@@ -61,15 +61,15 @@ nothing_more target done more so_far none =
 
 -- the end of the line
 pub line_past : (line start : ℕ) (bytes : List ℕ) (done : List Placed) → length bytes ≤ start →
-  line_tokens line bytes ≡ done ++ up_to_fault (tokens_in line (start + 1) 0 (drop start bytes)) → done ≡ line_tokens
+    line_tokens line bytes ≡ done ++ up_to_fault (tokens_in line (start + 1) 0 (drop start bytes)) → done ≡ line_tokens
     line bytes
 line_past line start bytes done past so_far =
     nothing_more _ done _ so_far (ap (tokens_in line (start + 1) 0) (drop_all start bytes past))
 
 -- a comment
 pub line_comment : (line start : ℕ) (bytes : List ℕ) (done : List Placed) → start < length bytes →
-  (get_or bytes start 0 ≡ 0x20 → ⊥) → get_or bytes start 0 ≡ 0x23 →
-  line_tokens line bytes ≡ done ++ up_to_fault (tokens_in line (start + 1) 0 (drop start bytes)) → done ≡ line_tokens
+    (get_or bytes start 0 ≡ 0x20 → ⊥) → get_or bytes start 0 ≡ 0x23 →
+    line_tokens line bytes ≡ done ++ up_to_fault (tokens_in line (start + 1) 0 (drop start bytes)) → done ≡ line_tokens
     line bytes
 line_comment line start bytes done within no_blank comment so_far =
     let b = get_or bytes start 0 in
@@ -79,9 +79,9 @@ line_comment line start bytes done within no_blank comment so_far =
 
 -- a fault, behind which nothing counts
 pub line_fault : (line start : ℕ) (bytes : List ℕ) (lexeme : Lexeme) (done new : List Placed) → start < length bytes →
-  (get_or bytes start 0 ≡ 0x20 → ⊥) → (get_or bytes start 0 ≡ 0x23 → ⊥) → lexeme ≡ lexeme_of (drop start bytes) →
-  0 < lexeme.width → is_fault lexeme.token ≡ true → new ≡ done ++ (put (at line (start + 1)) lexeme.token ∷ []) →
-  line_tokens line bytes ≡ done ++ up_to_fault (tokens_in line (start + 1) 0 (drop start bytes)) → new ≡ line_tokens
+    (get_or bytes start 0 ≡ 0x20 → ⊥) → (get_or bytes start 0 ≡ 0x23 → ⊥) → lexeme ≡ lexeme_of (drop start bytes) →
+    0 < lexeme.width → is_fault lexeme.token ≡ true → new ≡ done ++ (put (at line (start + 1)) lexeme.token ∷ []) →
+    line_tokens line bytes ≡ done ++ up_to_fault (tokens_in line (start + 1) 0 (drop start bytes)) → new ≡ line_tokens
     line bytes
 line_fault line start bytes lexeme done new within no_blank no_comment is progress faulty pushed so_far =
     let step : tokens_in line (start + 1) 0 (drop start bytes) ≡ put (at line (start + 1)) lexeme.token ∷ tokens_in line (start + lexeme.width + 1) 0 (drop (start + lexeme.width) bytes) =
@@ -96,18 +96,18 @@ pub rest_whole : (start : ℕ) (bytes : List ℕ) → take (length bytes - start
 rest_whole start bytes = take_all (length bytes - start) (drop start bytes) (omega (arith, length-drop start bytes))
 
 pub rest_some : (start : ℕ) (bytes : List ℕ) → start < length bytes → 0 < length (take (length bytes - start) (drop
-  start bytes))
+    start bytes))
 rest_some start bytes within = rw (rest_whole start bytes) (omega (arith, length-drop start bytes))
 
 pub lexeme_within : (start width : ℕ) (bytes : List ℕ) → start < length bytes →
-  width ≤ length (take (length bytes - start) (drop start bytes)) → start + width ≤ length bytes
+    width ≤ length (take (length bytes - start) (drop start bytes)) → start + width ≤ length bytes
 lexeme_within start width bytes within fits =
     omega (arith, fits, length-drop start bytes, ap length (rest_whole start bytes))
 
 -- at most as many tokens as bytes
 pub pushed_few : (done new : List Placed) (p : Placed) (start width : ℕ) → new ≡ done ++ (p ∷ []) → length done ≤
-  start →
-  0 < width → length new ≤ start + width
+    start →
+    0 < width → length new ≤ start + width
 pushed_few done new p start width put few progress = rw put (omega (arith, length-append done (p ∷ []), few, progress))
 
 pub blank_few : (done : List Placed) (start : ℕ) → length done ≤ start → length done ≤ start + 1
@@ -117,20 +117,20 @@ pub blank_within : (start : ℕ) (bytes : List ℕ) → start < length bytes →
 blank_within start bytes within = omega arith
 
 pub few_within : (done : List Placed) (start : ℕ) (bytes : List ℕ) → length done ≤ start → start ≤ length bytes →
-  length done ≤ length bytes
+    length done ≤ length bytes
 few_within done start bytes few within = omega arith
 
 pub fault_few : (done new : List Placed) (p : Placed) (start : ℕ) (bytes : List ℕ) → new ≡ done ++ (p ∷ []) →
-  length done ≤ start → start < length bytes → length new ≤ length bytes
+    length done ≤ start → start < length bytes → length new ≤ length bytes
 fault_few done new p start bytes put few within = rw put (omega (arith, length-append done (p ∷ []), few, within))
 
 -- the tokens with the one that is pushed
 pub next_whole : (line start : ℕ) (bytes : List ℕ) (lexeme : Lexeme) (done new : List Placed) →
-  new ≡ done ++ (put (at line (start + 1)) lexeme.token ∷ []) → start < length bytes →
-  (get_or bytes start 0 ≡ 0x20 → ⊥) → (get_or bytes start 0 ≡ 0x23 → ⊥) → lexeme ≡ lexeme_of (drop start bytes) →
-  0 < lexeme.width → is_fault lexeme.token ≡ false →
-  line_tokens line bytes ≡ done ++ up_to_fault (tokens_in line (start + 1) 0 (drop start bytes)) →
-  line_tokens line bytes ≡ new ++ up_to_fault (tokens_in line (start + lexeme.width + 1) 0 (drop (start +
+    new ≡ done ++ (put (at line (start + 1)) lexeme.token ∷ []) → start < length bytes →
+    (get_or bytes start 0 ≡ 0x20 → ⊥) → (get_or bytes start 0 ≡ 0x23 → ⊥) → lexeme ≡ lexeme_of (drop start bytes) →
+    0 < lexeme.width → is_fault lexeme.token ≡ false →
+    line_tokens line bytes ≡ done ++ up_to_fault (tokens_in line (start + 1) 0 (drop start bytes)) →
+    line_tokens line bytes ≡ new ++ up_to_fault (tokens_in line (start + lexeme.width + 1) 0 (drop (start +
     lexeme.width) bytes))
 next_whole line start bytes lexeme done new pushed within no_blank no_comment is progress sound so_far =
     line_next line start bytes lexeme done within no_blank no_comment is progress sound so_far

@@ -4,14 +4,14 @@ use Rattle.std.proofs.lemmas.List.{map-append, replicate_more}
 
 -- the same element once more
 pub pushed_same : {A : Type 0} (given now new : List A) (n : ℕ) (x : A) → new ≡ now ++ (x ∷ []) →
-  now ≡ given ++ replicate n x → new ≡ given ++ replicate (n + 1) x
+    now ≡ given ++ replicate n x → new ≡ given ++ replicate (n + 1) x
 pushed_same {A} given now new n x put is =
     put ∙ ap (λ (l : List A). l ++ (x ∷ [])) is ∙ append_assoc given (replicate n x) (x ∷ [])
     ∙ ap (λ (l : List A). given ++ l) (replicate_more n x)
 
 -- the image of one element more
 pub pushed_image : {A B : Type 0} (f : A → B) (given now new : List B) (ys : List A) (y : A) →
-  new ≡ now ++ (f y ∷ []) → now ≡ given ++ map f ys → new ≡ given ++ map f (ys ++ (y ∷ []))
+    new ≡ now ++ (f y ∷ []) → now ≡ given ++ map f ys → new ≡ given ++ map f (ys ++ (y ∷ []))
 pushed_image {A} {B} f given now new ys y put is =
     put ∙ ap (λ (l : List B). l ++ (f y ∷ [])) is ∙ append_assoc given (map f ys) (f y ∷ [])
     ∙ ap (λ (l : List B). given ++ l) (rw (map-append f ys (y ∷ [])) refl)

@@ -29,8 +29,8 @@ second text =
     else third text)))))
 
 pub past_first : (text : List ℕ) → false ≡ bytes_eq text (codes "and") → false ≡ bytes_eq text (codes "assert") →
-  false ≡ bytes_eq text (codes "class") → false ≡ bytes_eq text (codes "def") →
-  false ≡ bytes_eq text (codes "else") → false ≡ bytes_eq text (codes "for") → second text ≡ word_of text
+    false ≡ bytes_eq text (codes "class") → false ≡ bytes_eq text (codes "def") →
+    false ≡ bytes_eq text (codes "else") → false ≡ bytes_eq text (codes "for") → second text ≡ word_of text
 past_first text a b c d e f =
     skip _ _ _ _ a (skip _ _ _ _ b (skip _ _ _ _ c (skip _ _ _ _ d (skip _ _ _ _ e (skip _ _ _ _ f refl)))))
 
@@ -38,31 +38,31 @@ pub is_and : (text : List ℕ) → true ≡ bytes_eq text (codes "and") → Some
 is_and text a = this _ _ _ a
 
 pub is_assert : (text : List ℕ) → false ≡ bytes_eq text (codes "and") → true ≡ bytes_eq text (codes "assert") →
-  Some Assert ≡ word_of text
+    Some Assert ≡ word_of text
 is_assert text a b = skip _ _ _ _ a (this _ _ _ b)
 
 pub is_class : (text : List ℕ) → false ≡ bytes_eq text (codes "and") → false ≡ bytes_eq text (codes "assert") →
-  true ≡ bytes_eq text (codes "class") → Some Class ≡ word_of text
+    true ≡ bytes_eq text (codes "class") → Some Class ≡ word_of text
 is_class text a b c = skip _ _ _ _ a (skip _ _ _ _ b (this _ _ _ c))
 
 pub is_def : (text : List ℕ) → false ≡ bytes_eq text (codes "and") → false ≡ bytes_eq text (codes "assert") →
-  false ≡ bytes_eq text (codes "class") → true ≡ bytes_eq text (codes "def") → Some Def ≡ word_of text
+    false ≡ bytes_eq text (codes "class") → true ≡ bytes_eq text (codes "def") → Some Def ≡ word_of text
 is_def text a b c d = skip _ _ _ _ a (skip _ _ _ _ b (skip _ _ _ _ c (this _ _ _ d)))
 
 pub is_else : (text : List ℕ) → false ≡ bytes_eq text (codes "and") → false ≡ bytes_eq text (codes "assert") →
-  false ≡ bytes_eq text (codes "class") → false ≡ bytes_eq text (codes "def") →
-  true ≡ bytes_eq text (codes "else") → Some Else ≡ word_of text
+    false ≡ bytes_eq text (codes "class") → false ≡ bytes_eq text (codes "def") →
+    true ≡ bytes_eq text (codes "else") → Some Else ≡ word_of text
 is_else text a b c d e = skip _ _ _ _ a (skip _ _ _ _ b (skip _ _ _ _ c (skip _ _ _ _ d (this _ _ _ e))))
 
 pub is_for : (text : List ℕ) → false ≡ bytes_eq text (codes "and") → false ≡ bytes_eq text (codes "assert") →
-  false ≡ bytes_eq text (codes "class") → false ≡ bytes_eq text (codes "def") →
-  false ≡ bytes_eq text (codes "else") → true ≡ bytes_eq text (codes "for") → Some For ≡ word_of text
+    false ≡ bytes_eq text (codes "class") → false ≡ bytes_eq text (codes "def") →
+    false ≡ bytes_eq text (codes "else") → true ≡ bytes_eq text (codes "for") → Some For ≡ word_of text
 is_for text a b c d e f = skip _ _ _ _ a (skip _ _ _ _ b (skip _ _ _ _ c (skip _ _ _ _ d (skip _ _ _ _ e (this _ _ _
     f)))))
 
 pub past_second : (text : List ℕ) → false ≡ bytes_eq text (codes "from") → false ≡ bytes_eq text (codes "if") →
-  false ≡ bytes_eq text (codes "import") → false ≡ bytes_eq text (codes "in") →
-  false ≡ bytes_eq text (codes "or") → false ≡ bytes_eq text (codes "pass") → third text ≡ second text
+    false ≡ bytes_eq text (codes "import") → false ≡ bytes_eq text (codes "in") →
+    false ≡ bytes_eq text (codes "or") → false ≡ bytes_eq text (codes "pass") → third text ≡ second text
 past_second text a b c d e f =
     skip _ _ _ _ a (skip _ _ _ _ b (skip _ _ _ _ c (skip _ _ _ _ d (skip _ _ _ _ e (skip _ _ _ _ f refl)))))
 
@@ -70,31 +70,31 @@ pub is_from : (text : List ℕ) → true ≡ bytes_eq text (codes "from") → So
 is_from text a = this _ _ _ a
 
 pub is_if : (text : List ℕ) → false ≡ bytes_eq text (codes "from") → true ≡ bytes_eq text (codes "if") →
-  Some If ≡ second text
+    Some If ≡ second text
 is_if text a b = skip _ _ _ _ a (this _ _ _ b)
 
 pub is_import : (text : List ℕ) → false ≡ bytes_eq text (codes "from") → false ≡ bytes_eq text (codes "if") →
-  true ≡ bytes_eq text (codes "import") → Some Import ≡ second text
+    true ≡ bytes_eq text (codes "import") → Some Import ≡ second text
 is_import text a b c = skip _ _ _ _ a (skip _ _ _ _ b (this _ _ _ c))
 
 pub is_in : (text : List ℕ) → false ≡ bytes_eq text (codes "from") → false ≡ bytes_eq text (codes "if") →
-  false ≡ bytes_eq text (codes "import") → true ≡ bytes_eq text (codes "in") → Some In ≡ second text
+    false ≡ bytes_eq text (codes "import") → true ≡ bytes_eq text (codes "in") → Some In ≡ second text
 is_in text a b c d = skip _ _ _ _ a (skip _ _ _ _ b (skip _ _ _ _ c (this _ _ _ d)))
 
 pub is_or : (text : List ℕ) → false ≡ bytes_eq text (codes "from") → false ≡ bytes_eq text (codes "if") →
-  false ≡ bytes_eq text (codes "import") → false ≡ bytes_eq text (codes "in") →
-  true ≡ bytes_eq text (codes "or") → Some Or ≡ second text
+    false ≡ bytes_eq text (codes "import") → false ≡ bytes_eq text (codes "in") →
+    true ≡ bytes_eq text (codes "or") → Some Or ≡ second text
 is_or text a b c d e = skip _ _ _ _ a (skip _ _ _ _ b (skip _ _ _ _ c (skip _ _ _ _ d (this _ _ _ e))))
 
 pub is_pass : (text : List ℕ) → false ≡ bytes_eq text (codes "from") → false ≡ bytes_eq text (codes "if") →
-  false ≡ bytes_eq text (codes "import") → false ≡ bytes_eq text (codes "in") →
-  false ≡ bytes_eq text (codes "or") → true ≡ bytes_eq text (codes "pass") → Some Pass ≡ second text
+    false ≡ bytes_eq text (codes "import") → false ≡ bytes_eq text (codes "in") →
+    false ≡ bytes_eq text (codes "or") → true ≡ bytes_eq text (codes "pass") → Some Pass ≡ second text
 is_pass text a b c d e f = skip _ _ _ _ a (skip _ _ _ _ b (skip _ _ _ _ c (skip _ _ _ _ d (skip _ _ _ _ e (this _ _ _
     f)))))
 
 pub past_third : (text : List ℕ) → false ≡ bytes_eq text (codes "relu") → false ≡ bytes_eq text (codes "select") →
-  false ≡ bytes_eq text (codes "seq") → false ≡ bytes_eq text (codes "stride") →
-  false ≡ bytes_eq text (codes "True") → false ≡ bytes_eq text (codes "False") → None ≡ third text
+    false ≡ bytes_eq text (codes "seq") → false ≡ bytes_eq text (codes "stride") →
+    false ≡ bytes_eq text (codes "True") → false ≡ bytes_eq text (codes "False") → None ≡ third text
 past_third text a b c d e f =
     skip _ _ _ _ a (skip _ _ _ _ b (skip _ _ _ _ c (skip _ _ _ _ d (skip _ _ _ _ e (skip _ _ _ _ f refl)))))
 
@@ -102,24 +102,24 @@ pub is_relu : (text : List ℕ) → true ≡ bytes_eq text (codes "relu") → So
 is_relu text a = this _ _ _ a
 
 pub is_select : (text : List ℕ) → false ≡ bytes_eq text (codes "relu") → true ≡ bytes_eq text (codes "select") →
-  Some Select ≡ third text
+    Some Select ≡ third text
 is_select text a b = skip _ _ _ _ a (this _ _ _ b)
 
 pub is_seq : (text : List ℕ) → false ≡ bytes_eq text (codes "relu") → false ≡ bytes_eq text (codes "select") →
-  true ≡ bytes_eq text (codes "seq") → Some Seq ≡ third text
+    true ≡ bytes_eq text (codes "seq") → Some Seq ≡ third text
 is_seq text a b c = skip _ _ _ _ a (skip _ _ _ _ b (this _ _ _ c))
 
 pub is_stride : (text : List ℕ) → false ≡ bytes_eq text (codes "relu") → false ≡ bytes_eq text (codes "select") →
-  false ≡ bytes_eq text (codes "seq") → true ≡ bytes_eq text (codes "stride") → Some Stride ≡ third text
+    false ≡ bytes_eq text (codes "seq") → true ≡ bytes_eq text (codes "stride") → Some Stride ≡ third text
 is_stride text a b c d = skip _ _ _ _ a (skip _ _ _ _ b (skip _ _ _ _ c (this _ _ _ d)))
 
 pub is_true : (text : List ℕ) → false ≡ bytes_eq text (codes "relu") → false ≡ bytes_eq text (codes "select") →
-  false ≡ bytes_eq text (codes "seq") → false ≡ bytes_eq text (codes "stride") →
-  true ≡ bytes_eq text (codes "True") → Some True ≡ third text
+    false ≡ bytes_eq text (codes "seq") → false ≡ bytes_eq text (codes "stride") →
+    true ≡ bytes_eq text (codes "True") → Some True ≡ third text
 is_true text a b c d e = skip _ _ _ _ a (skip _ _ _ _ b (skip _ _ _ _ c (skip _ _ _ _ d (this _ _ _ e))))
 
 pub is_false : (text : List ℕ) → false ≡ bytes_eq text (codes "relu") → false ≡ bytes_eq text (codes "select") →
-  false ≡ bytes_eq text (codes "seq") → false ≡ bytes_eq text (codes "stride") →
-  false ≡ bytes_eq text (codes "True") → true ≡ bytes_eq text (codes "False") → Some False ≡ third text
+    false ≡ bytes_eq text (codes "seq") → false ≡ bytes_eq text (codes "stride") →
+    false ≡ bytes_eq text (codes "True") → true ≡ bytes_eq text (codes "False") → Some False ≡ third text
 is_false text a b c d e f = skip _ _ _ _ a (skip _ _ _ _ b (skip _ _ _ _ c (skip _ _ _ _ d (skip _ _ _ _ e (this _ _ _
     f)))))

@@ -40,13 +40,13 @@ at_end-path_in-path-requires-clause-number t c =
 pub after-at_end-requires : goal.after-at_end-requires
 after-at_end-requires t c =
     let i = inside (length c.args.path.now) Else (statement c.args.s.now) (block c.in-If.b)
-      (ap (λ s. branch_of Else (statement s)) c.in-If.is) c.requires.rules c.requires.room in
+    (ap (λ s. branch_of Else (statement s)) c.in-If.is) c.requires.rules c.requires.room in
     (search rules, (c.requires.field, (i.rules, (i.short, i.room))))
 
 pub after-at_end-requires-in-If : goal.after-at_end-requires-in-If
 after-at_end-requires-in-If t c =
     let i = inside (length c.args.path.now) Main (statement c.args.s.now) (block c.in-If.a)
-      (ap (λ s. branch_of Main (statement s)) c.in-If.is) c.requires.rules c.requires.room in
+    (ap (λ s. branch_of Main (statement s)) c.in-If.is) c.requires.rules c.requires.room in
     (search rules, (c.requires.field, (i.rules, (i.short, i.room))))
 
 pub after-returns-in_ok-one-in-If : goal.after-returns-in_ok-one-in-If
@@ -57,7 +57,7 @@ after-returns-in_ok-one-in-If t c =
     let v = plain_value c.args.value in
     let one = c.in_ok-one-in-If.ensures in
     let other = c.in_ok-other-in-If.ensures
-      ∙ ap (value_at_end tell f path Else zero (block c.in-If.b)) c.duplicate.ensures in
+    ∙ ap (value_at_end tell f path Else zero (block c.in-If.b)) c.duplicate.ensures in
     subst (λ s. IfOk c.kept.result (λ x. plain_value x ≡ value_after tell f path (statement s) v)) (sym c.in-If.is)
     (subst (λ w. IfOk c.kept.result (λ x. plain_value x ≡ w)) (λ i. kept_value tell path (one i) (other i))
     c.kept.ensures)
@@ -80,9 +80,17 @@ at_end-after-requires t c =
     let is = c.statement.ensures.value in
     let way = c.loop-k.invariant in
     let rule = rules_for a left rest is way.rules in
-    let room = room_for (length outer) a left rest is way.room in
-    (search rules, (c.requires.field, (rule.0, room_inside outer c.path_in-path.result (branch_taken c.args.branch) k
-    (step_levels a) c.path_in-path.ensures room.0)))
+    let room = room_for (length outer) a left rest is way.room in (
+      search rules,
+      (
+        c.requires.field,
+        (
+          rule.0,
+          room_inside outer c.path_in-path.result (branch_taken c.args.branch) k
+              (step_levels a) c.path_in-path.ensures room.0,
+        ),
+      ),
+    )
 
 pub at_end-loop-k-preserved : goal.at_end-loop-k-preserved
 at_end-loop-k-preserved t c =
@@ -99,8 +107,8 @@ at_end-loop-k-preserved t c =
     let way = c.loop-k.invariant in
     record {
       value = end_on tell f outer branch k left rest a c.path_in-path.result (plain_value c.loop-k.now)
-        (plain_value c.in_ok-now.now) (value_at_end tell f outer branch zero (block ss) (plain_value c.args.value))
-        is c.path_in-path.ensures c.in_ok-now.ensures way.value;
+          (plain_value c.in_ok-now.now) (value_at_end tell f outer branch zero (block ss) (plain_value c.args.value))
+          is c.path_in-path.ensures c.in_ok-now.ensures way.value;
       rules = (rules_for a left rest is way.rules).1;
       room = (room_for (length outer) a left rest is way.room).1;
     }

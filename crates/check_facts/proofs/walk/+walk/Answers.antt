@@ -173,9 +173,10 @@ walk-requires t c =
     let there = place_inside tell outer branch (step_to l) n rest xs others a inner c.statement-s.ensures.value c.in-Some-block.ensures (ap is_some (way ∙ p.is)) in
     let room = room_inside outer path branch l.index (step_levels a) c.path_in-path.ensures (room_at (length outer) l.index xs others a c.statement-s.ensures.value c.requires.room) in
     let i = inside (length path) n.branch a inner (sym c.in-Some-block.ensures) (rules_at l.index xs others a c.statement-s.ensures.value c.requires.rules) room in
-    let same = step_same c.in_ok-below.below c.in-Some.next.now (c.in_ok-below.ensures.branch ∙ c.in_ok-found.ensures.branch) c.in_ok-below.ensures.index in
-    (one_less (length c.in-Some.rest.now) (length c.args.steps.now) t c.decreases c.in-Some.ensures.cases.1,
-    (subst (λ s. IsSome (opened_in 1 (s ∷ rest) inner)) (sym same) there, (i.rules, (i.short, i.room))))
+    let same = step_same c.in_ok-below.below c.in-Some.next.now (c.in_ok-below.ensures.branch ∙ c.in_ok-found.ensures.branch) c.in_ok-below.ensures.index in (
+      one_less (length c.in-Some.rest.now) (length c.args.steps.now) t c.decreases c.in-Some.ensures.cases.1,
+      (subst (λ s. IsSome (opened_in 1 (s ∷ rest) inner)) (sym same) there, (i.rules, (i.short, i.room))),
+    )
 
 pub returns-in_err-facts-2-clause-facts : goal.returns-in_err-facts-2-clause-facts
 returns-in_err-facts-2-clause-facts t c = λ first h o e.
@@ -195,11 +196,11 @@ returns-in_err-facts-2-clause-facts t c = λ first h o e.
     let is_path = c.path_in-path.ensures in
     let is_block = c.in-Some-block.ensures in
     let stands = stands_below g outer path l n rest xs others a inner first is is_path is_block found below
-      (levels_of c.args.trail.now) (levels_of c.level_inside.new.trail) (levels_of c.bring.new.trail)
-      (ap branch_taken c.in_ok-found.ensures.branch) h c.in_ok-found.ensures.stand c.in_ok-below.ensures.stand in
+    (levels_of c.args.trail.now) (levels_of c.level_inside.new.trail) (levels_of c.bring.new.trail)
+    (ap branch_taken c.in_ok-found.ensures.branch) h c.in_ok-found.ensures.stand c.in_ok-below.ensures.stand in
     let way = sym (ap (λ q. opened_in 1 (step_to l ∷ map step_taken q) (block xs)) c.in-Some.ensures.cases.0) ∙ e in
     let same = step_same below c.in-Some.next.now (c.in_ok-below.ensures.branch ∙ c.in_ok-found.ensures.branch)
-      c.in_ok-below.ensures.index in
+    c.in_ok-below.ensures.index in
     left_early _ _ g _ _ _ c.from_residual-in_err-facts-2.ensures.1
     (refused_below g outer path l n rest xs others a inner first is is_path is_block o way below same _
     c.args.context.now c.enter.new.context (c.in_ok-enter.ensures (before g outer l xs first) h.0)
@@ -223,11 +224,11 @@ returns-clause-facts t c = λ first h o e.
     let is_path = c.path_in-path.ensures in
     let is_block = c.in-Some-block.ensures in
     let stands = stands_below g outer path l n rest xs others a inner first is is_path is_block found below
-      (levels_of c.args.trail.now) (levels_of c.level_inside.new.trail) (levels_of c.bring.new.trail)
-      (ap branch_taken c.in_ok-found.ensures.branch) h c.in_ok-found.ensures.stand c.in_ok-below.ensures.stand in
+    (levels_of c.args.trail.now) (levels_of c.level_inside.new.trail) (levels_of c.bring.new.trail)
+    (ap branch_taken c.in_ok-found.ensures.branch) h c.in_ok-found.ensures.stand c.in_ok-below.ensures.stand in
     let way = sym (ap (λ q. opened_in 1 (step_to l ∷ map step_taken q) (block xs)) c.in-Some.ensures.cases.0) ∙ e in
     let same = step_same below c.in-Some.next.now (c.in_ok-below.ensures.branch ∙ c.in_ok-found.ensures.branch)
-      c.in_ok-below.ensures.index in
+    c.in_ok-below.ensures.index in
     came_below g outer path l n rest xs others a inner first is is_path is_block o way below same c.args.context.now
     c.enter.new.context c.walk.new.context (c.in_ok-enter.ensures (before g outer l xs first) h.0)
     (c.in_ok-facts-2.ensures.facts (head g outer path l xs a first) stands)
@@ -250,11 +251,11 @@ returns-clause-known t c = λ first h o e.
     let is_path = c.path_in-path.ensures in
     let is_block = c.in-Some-block.ensures in
     let stands = stands_below g outer path l n rest xs others a inner first is is_path is_block found below
-      (levels_of c.args.trail.now) (levels_of c.level_inside.new.trail) (levels_of c.bring.new.trail)
-      (ap branch_taken c.in_ok-found.ensures.branch) h c.in_ok-found.ensures.stand c.in_ok-below.ensures.stand in
+    (levels_of c.args.trail.now) (levels_of c.level_inside.new.trail) (levels_of c.bring.new.trail)
+    (ap branch_taken c.in_ok-found.ensures.branch) h c.in_ok-found.ensures.stand c.in_ok-below.ensures.stand in
     let way = sym (ap (λ q. opened_in 1 (step_to l ∷ map step_taken q) (block xs)) c.in-Some.ensures.cases.0) ∙ e in
     let same = step_same below c.in-Some.next.now (c.in_ok-below.ensures.branch ∙ c.in_ok-found.ensures.branch)
-      c.in_ok-below.ensures.index in
+    c.in_ok-below.ensures.index in
     known_below g outer path l n rest xs others a inner first is is_path is_block o way below same c.in_ok-facts-2.facts
     (c.in_ok-facts-2.ensures.known (head g outer path l xs a first) stands)
 
@@ -276,8 +277,8 @@ returns-clause-stand t c = λ first h blocks e.
     let is_path = c.path_in-path.ensures in
     let is_block = c.in-Some-block.ensures in
     let stands = stands_below g outer path l n rest xs others a inner first is is_path is_block found below
-      (levels_of c.args.trail.now) (levels_of c.level_inside.new.trail) (levels_of c.bring.new.trail)
-      (ap branch_taken c.in_ok-found.ensures.branch) h c.in_ok-found.ensures.stand c.in_ok-below.ensures.stand in
+    (levels_of c.args.trail.now) (levels_of c.level_inside.new.trail) (levels_of c.bring.new.trail)
+    (ap branch_taken c.in_ok-found.ensures.branch) h c.in_ok-found.ensures.stand c.in_ok-below.ensures.stand in
     let same = c.in_ok-below.ensures.branch ∙ c.in_ok-found.ensures.branch in
     let block_below = ap (λ v. branch_of (branch_taken v) a) same ∙ sym is_block in
     let told = c.in_ok-facts-2.ensures.stand (head g outer path l xs a first) stands (λ u. branch_of u a) block_below in

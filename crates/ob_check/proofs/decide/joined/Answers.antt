@@ -19,8 +19,8 @@ one_joined :
     → made ≡ flat_map known_in chunks → All IsOk chunks
     → (next ≡ flat_map known_in (chunks ++ part ∷ [])) × All IsOk (chunks ++ part ∷ [])
 one_joined chunks part more made next is pushed so_far fine = (
-    pushed ∙ ap₂ (λ xs ys. xs ++ ys) so_far (sym (ap known_in is)) ∙ sym (flat_map_push known_in chunks part),
-    All-push IsOk chunks part fine (subst IsOk (sym is) refl),
+  pushed ∙ ap₂ (λ xs ys. xs ++ ys) so_far (sym (ap known_in is)) ∙ sym (flat_map_push known_in chunks part),
+  All-push IsOk chunks part fine (subst IsOk (sym is) refl),
 )
 
 pub loop-part-preserved : goal.loop-part-preserved

@@ -34,35 +34,35 @@ loop-start-preserved-then-byte-eq32 c = record {
 pub returns-clause-value : goal.returns-clause-value
 returns-clause-value c =
     elim c.loop-start-test.branch [
-      else-loop-start-test w ↦ ap (λ v. v.items) w.tokens-is
-        ∙ line_past c.args.line c.loop-start.start c.args.bytes.now c.loop-start.tokens.items w.loop-start-test.false
-        c.loop-start.invariant.whole
-    | then-loop-start-test+else-byte-eq32+then-byte-eq35 w ↦ ap (λ v. v.items) w.tokens-is
-        ∙ line_comment c.args.line c.loop-start.start c.args.bytes.now c.loop-start.tokens.items w.loop-start-test.true
-        w.if-byte-eq32.false w.if-byte-eq35.true c.loop-start.invariant.whole
-    | then-loop-start-test+else-byte-eq32+else-byte-eq35+in_ok-lexeme+in_ok-push+then-fault w ↦ ap (λ v. v.items)
-    w.tokens-is
-        ∙ line_fault c.args.line c.loop-start.start c.args.bytes.now w.in_ok-lexeme.lexeme c.loop-start.tokens.items
-        w.push.new.self.items w.loop-start-test.true w.if-byte-eq32.false w.if-byte-eq35.false
-        (w.in_ok-lexeme.ensures.value ∙ ap lexeme_of (rest_whole c.loop-start.start c.args.bytes.now))
-        (w.in_ok-lexeme.ensures.progress (rest_some c.loop-start.start c.args.bytes.now w.loop-start-test.true))
-        (sym w.if-fault.ensures) w.in_ok-push.ensures.items c.loop-start.invariant.whole
+      | else-loop-start-test w ↦ ap (λ v. v.items) w.tokens-is
+          ∙ line_past c.args.line c.loop-start.start c.args.bytes.now c.loop-start.tokens.items w.loop-start-test.false
+          c.loop-start.invariant.whole
+      | then-loop-start-test+else-byte-eq32+then-byte-eq35 w ↦ ap (λ v. v.items) w.tokens-is
+          ∙ line_comment c.args.line c.loop-start.start c.args.bytes.now c.loop-start.tokens.items w.loop-start-test.true
+          w.if-byte-eq32.false w.if-byte-eq35.true c.loop-start.invariant.whole
+      | then-loop-start-test+else-byte-eq32+else-byte-eq35+in_ok-lexeme+in_ok-push+then-fault w ↦ ap (λ v. v.items)
+          w.tokens-is
+          ∙ line_fault c.args.line c.loop-start.start c.args.bytes.now w.in_ok-lexeme.lexeme c.loop-start.tokens.items
+          w.push.new.self.items w.loop-start-test.true w.if-byte-eq32.false w.if-byte-eq35.false
+          (w.in_ok-lexeme.ensures.value ∙ ap lexeme_of (rest_whole c.loop-start.start c.args.bytes.now))
+          (w.in_ok-lexeme.ensures.progress (rest_some c.loop-start.start c.args.bytes.now w.loop-start-test.true))
+          (sym w.if-fault.ensures) w.in_ok-push.ensures.items c.loop-start.invariant.whole
     ]
 
 pub returns-clause-bound : goal.returns-clause-bound
 returns-clause-bound c =
     elim c.loop-start-test.branch [
-      else-loop-start-test w ↦ subst (λ (ts : List Placed). length ts ≤ length c.args.bytes.now)
-        (sym (ap (λ v. v.items) w.tokens-is))
-        (few_within c.loop-start.tokens.items c.loop-start.start c.args.bytes.now c.loop-start.invariant.few
-        c.loop-start.invariant.within)
-    | then-loop-start-test+else-byte-eq32+then-byte-eq35 w ↦ subst (λ (ts : List Placed). length ts ≤ length
-    c.args.bytes.now)
-        (sym (ap (λ v. v.items) w.tokens-is))
-        (few_within c.loop-start.tokens.items c.loop-start.start c.args.bytes.now c.loop-start.invariant.few
-        c.loop-start.invariant.within)
-    | then-loop-start-test+else-byte-eq32+else-byte-eq35+in_ok-lexeme+in_ok-push+then-fault w ↦
-        subst (λ (ts : List Placed). length ts ≤ length c.args.bytes.now) (sym (ap (λ v. v.items) w.tokens-is))
-        (fault_few c.loop-start.tokens.items w.push.new.self.items _ c.loop-start.start c.args.bytes.now
-        w.in_ok-push.ensures.items c.loop-start.invariant.few w.loop-start-test.true)
+      | else-loop-start-test w ↦ subst (λ (ts : List Placed). length ts ≤ length c.args.bytes.now)
+          (sym (ap (λ v. v.items) w.tokens-is))
+          (few_within c.loop-start.tokens.items c.loop-start.start c.args.bytes.now c.loop-start.invariant.few
+          c.loop-start.invariant.within)
+      | then-loop-start-test+else-byte-eq32+then-byte-eq35 w ↦ subst (λ (ts : List Placed). length ts ≤ length
+          c.args.bytes.now)
+          (sym (ap (λ v. v.items) w.tokens-is))
+          (few_within c.loop-start.tokens.items c.loop-start.start c.args.bytes.now c.loop-start.invariant.few
+          c.loop-start.invariant.within)
+      | then-loop-start-test+else-byte-eq32+else-byte-eq35+in_ok-lexeme+in_ok-push+then-fault w ↦
+          subst (λ (ts : List Placed). length ts ≤ length c.args.bytes.now) (sym (ap (λ v. v.items) w.tokens-is))
+          (fault_few c.loop-start.tokens.items w.push.new.self.items _ c.loop-start.start c.args.bytes.now
+          w.in_ok-push.ensures.items c.loop-start.invariant.few w.loop-start-test.true)
     ]

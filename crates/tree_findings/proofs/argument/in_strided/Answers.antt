@@ -16,8 +16,8 @@ returns-in-Window c =
     let x = c.in-Window.x.0 in
     let coords = c.as_slice-coords.ensures in
     let part = c.in_part.ensures
-      ∙ ap (λ cs. both (use_of (has_cell cell) (sort_in scope x))
-      (findings_of_window kinds scope x cs)) coords in
+    ∙ ap (λ cs. both (use_of (has_cell cell) (sort_in scope x))
+    (findings_of_window kinds scope x cs)) coords in
     let ranked = c.rule.ensures ∙ ap (λ n. rule (rank == n)) (c.spans.ensures ∙ ap spans coords) in
     subst (λ a. c.and.result ≡ findings_of_strided kinds scope cell rank (argument a))
     (sym c.in-Window.is) (c.and.ensures ∙ (λ i. both (part i) (ranked i)))

@@ -17,8 +17,8 @@ returns-in-Window c =
     let x = c.in-Window.x.0 in
     let coords = c.as_slice-coords.ensures in
     let part = c.in_part.ensures
-      ∙ ap (λ cs. both (use_of (has_cell cell) (sort_in scope x))
-      (findings_of_window kinds scope x cs)) coords in
+    ∙ ap (λ cs. both (use_of (has_cell cell) (sort_in scope x))
+    (findings_of_window kinds scope x cs)) coords in
     let is_cell = c.is_cell.ensures ∙ ap (λ cs. (rank == 0) && ((spans cs == 0) && not (length cs == 0))) coords in
     let alone = c.rule-alone.ensures ∙ ap rule is_cell in
     let deepest = c.deepest_coord.ensures ∙ ap deepest_coord coords in

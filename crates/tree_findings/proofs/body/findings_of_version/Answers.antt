@@ -10,7 +10,7 @@ pub returns : goal.returns
 returns c =
     let b = block c.args.q.now.body in
     let ids = c.as_slice-2.ensures.value ∙ c.in_ok-ids.ensures
-      ∙ ap (λ ps. param_ids ps ++ binders b) c.as_slice.ensures in
+    ∙ ap (λ ps. param_ids ps ++ binders b) c.as_slice.ensures in
     let few = c.are_below-few.ensures ∙ ap (list_all (λ x. nat_lt x (c.args.base + 65536))) ids in
     let limited = c.limit.ensures ∙ ap limit few in
     c.and.ensures ∙ (λ i. both (c.in_ok-found.ensures i) (limited i))

@@ -88,16 +88,18 @@ returns-then-whole t c =
     let whole = c.if-is_whole.whole in
     let two = is_whole (parameter q).kind in
     let whole_is : whole ≡ (c.is_whole.result || two) = elim c.if-is_whole.branch [
-        then-is_whole w ↦ or_first two w.if-is_whole.true w.whole-is
-      | else-is_whole w ↦ or_second w.if-is_whole.false (w.whole-is ∙ w.is_whole-whole.ensures) ] in
+      | then-is_whole w ↦ or_first two w.if-is_whole.true w.whole-is
+      | else-is_whole w ↦ or_second w.if-is_whole.false (w.whole-is ∙ w.is_whole-whole.ensures)
+    ] in
     let value_is : c.if-same.value ≡ (same && (written && whole)) = elim c.if-same.branch [
-        then-same+then-written w ↦ and_second w.if-same.true (and_second w.if-written.true w.value-is)
+      | then-same+then-written w ↦ and_second w.if-same.true (and_second w.if-written.true w.value-is)
       | then-same+else-written w ↦ and_second w.if-same.true (and_first whole w.if-written.false w.value-is)
-      | else-same w ↦ and_first (written && whole) w.if-same.false w.value-is ] in
+      | else-same w ↦ and_first (written && whole) w.if-same.false w.value-is
+    ] in
     let one = c.same_root-same.ensures ∙ ap (same_root kinds r) c.root_of.ensures in
     let full = whole_is ∙ ap (λ s. s || two) c.is_whole.ensures in
     let is : c.if-same.value ≡ here kinds writes root p r q a =
-      value_is ∙ (λ i. one i && (c.has_write_of-written.ensures i && full i)) in
+    value_is ∙ (λ i. one i && (c.has_write_of-written.ensures i && full i)) in
     let rest = shared kinds writes root p r (take (length ps - 1) (drop 1 ps)) (take (length as' - 1) (drop 1 as')) in
     c.if-whole.true ∙ ap (λ b. b || rest) (sym c.if-whole.true ∙ is)
     ∙ sym (shared_first kinds writes root p r ps as' q a c.in-len1-up.len_at_least c.in-len1-up-args.len_at_least
@@ -120,16 +122,18 @@ returns-else-whole t c =
     let whole = c.if-is_whole.whole in
     let two = is_whole (parameter q).kind in
     let whole_is : whole ≡ (c.is_whole.result || two) = elim c.if-is_whole.branch [
-        then-is_whole w ↦ or_first two w.if-is_whole.true w.whole-is
-      | else-is_whole w ↦ or_second w.if-is_whole.false (w.whole-is ∙ w.is_whole-whole.ensures) ] in
+      | then-is_whole w ↦ or_first two w.if-is_whole.true w.whole-is
+      | else-is_whole w ↦ or_second w.if-is_whole.false (w.whole-is ∙ w.is_whole-whole.ensures)
+    ] in
     let value_is : c.if-same.value ≡ (same && (written && whole)) = elim c.if-same.branch [
-        then-same+then-written w ↦ and_second w.if-same.true (and_second w.if-written.true w.value-is)
+      | then-same+then-written w ↦ and_second w.if-same.true (and_second w.if-written.true w.value-is)
       | then-same+else-written w ↦ and_second w.if-same.true (and_first whole w.if-written.false w.value-is)
-      | else-same w ↦ and_first (written && whole) w.if-same.false w.value-is ] in
+      | else-same w ↦ and_first (written && whole) w.if-same.false w.value-is
+    ] in
     let one = c.same_root-same.ensures ∙ ap (same_root kinds r) c.root_of.ensures in
     let full = whole_is ∙ ap (λ s. s || two) c.is_whole.ensures in
     let is : c.if-same.value ≡ here kinds writes root p r q a =
-      value_is ∙ (λ i. one i && (c.has_write_of-written.ensures i && full i)) in
+    value_is ∙ (λ i. one i && (c.has_write_of-written.ensures i && full i)) in
     let rest = shared kinds writes root p r (take (length ps - 1) (drop 1 ps)) (take (length as' - 1) (drop 1 as')) in
     c.is_shared.ensures ∙ ap (λ b. b || rest) (sym c.if-whole.false ∙ is)
     ∙ sym (shared_first kinds writes root p r ps as' q a c.in-len1-up.len_at_least c.in-len1-up-args.len_at_least

@@ -74,8 +74,8 @@ walk_block-loop-k-preserved t c =
     let before = c.args.walk.now in
     let after = c.walk_statement.new.walk in
     let way = gone_on (ground_kinds g) (ground_memories g) (ground_callees g) before c.loop-k.walk after
-      c.loop-k.found c.in_ok-one.one ss left rest (statement c.statement.result.now)
-      c.loop-k.invariant c.statement.ensures.value c.in_ok-one.ensures.found c.in_ok-one.ensures.walked in
+    c.loop-k.found c.in_ok-one.one ss left rest (statement c.statement.result.now)
+    c.loop-k.invariant c.statement.ensures.value c.in_ok-one.ensures.found c.in_ok-one.ensures.walked in
     subst (λ f. OnWay (ground_kinds g) (ground_memories g) (ground_callees g) before after f ss rest)
     (sym c.and-found.ensures) way
 
@@ -120,7 +120,7 @@ walk_loop-returns-clause-back t c =
     let back = c.in_ok-inside.ensures.back in
     record {
       entries = c.truncate.ensures.items ∙ ap (λ n. take n c.walk_branch.new.walk.entries.items) known
-        ∙ ap (take (length before)) (back.entries ∙ bound.entries) ∙ take_front before _;
+          ∙ ap (take (length before)) (back.entries ∙ bound.entries) ∙ take_front before _;
       aliases = back.aliases ∙ bound.aliases;
     }
 
@@ -277,11 +277,14 @@ pub walk_branch-walk_block-requires : goal.walk_branch-walk_block-requires
 walk_branch-walk_block-requires t c = (branch_falls (nodes_in (block c.args.b.now)) t c.decreases, c.requires)
 
 pub walk_statement-walk_loop-requires : goal.walk_statement-walk_loop-requires
-walk_statement-walk_loop-requires t c =
-    (inside_loop (nodes_in (block c.in-For.b)) t (ap (λ s. 4 * nodes (statement s)) (sym c.in-For.is) ∙ c.decreases),
-    c.requires)
+walk_statement-walk_loop-requires t c = (
+  inside_loop (nodes_in (block c.in-For.b)) t (ap (λ s. 4 * nodes (statement s)) (sym c.in-For.is) ∙ c.decreases),
+  c.requires,
+)
 
 pub walk_statement-walk_if-requires : goal.walk_statement-walk_if-requires
-walk_statement-walk_if-requires t c =
-    (inside_if (nodes_in (block c.in-If.a)) (nodes_in (block c.in-If.b)) t
-    (ap (λ s. 4 * nodes (statement s)) (sym c.in-If.is) ∙ c.decreases), c.requires)
+walk_statement-walk_if-requires t c = (
+  inside_if (nodes_in (block c.in-If.a)) (nodes_in (block c.in-If.b)) t
+      (ap (λ s. 4 * nodes (statement s)) (sym c.in-If.is) ∙ c.decreases),
+  c.requires,
+)
