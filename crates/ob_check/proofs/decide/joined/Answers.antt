@@ -1,4 +1,4 @@
-use Rattle.std.proofs.Common.{◌≡◌, List, [], ◌∷◌, ◌++◌, flat_map, All, IsOk, Result, Ok, Err, Vec, Global}
+use Rattle.std.proofs.Common.{◌≡◌, List, [], ◌∷◌, ◌++◌, flat_map, All, IsOk, Result, Ok, Vec, Global}
 use Rattle.std.proofs.Common.{append_assoc, append-nil, refl, ap, ap₂, sym, subst, ◌∙◌}
 use Rattle.std.proofs.lemmas.List.Elements.{All-push}
 use Rattle.std.specs.declared.alloc.AllocError.{AllocError}
