@@ -1,5 +1,5 @@
 -- Lists of cases of the program as plain ones.
-use Rattle.std.proofs.Common.{◌≡◌, ℕ, zero, suc, ◌+◌, ◌<◌, List, [], ◌∷◌, ◌++◌, map, length, set, get_or, take, arith, refl, sym, ap, ◌∙◌, add-one}
+use Rattle.std.proofs.Common.{◌≡◌, ℕ, zero, suc, ◌+◌, ◌<◌, List, [], ◌∷◌, ◌++◌, map, length, set, get_or, take, arith, refl, sym, ap, ap₂, ◌∙◌, add-one, append_assoc}
 use Rattle.std.proofs.lemmas.List.{append-nil, map-append, take_more}
 use Rattle.std.specs.Prelude.{Vec}
 use Rattle.affine_forms.specs.Formulas.{Constraint, product}
@@ -21,6 +21,13 @@ module _ {A : Type 0} where
   pub plain_append : (xs ys : List (Vec RsConstraint A)) → plain_cases (xs ++ ys) ≡ plain_cases xs ++ plain_cases ys
   plain_append [] ys = refl
   plain_append (x ∷ xs) ys = ap (λ r. map plain_constraint x.items ∷ r) (plain_append xs ys)
+
+  plain_next : (xs : List (Vec RsConstraint A)) (i : ℕ) (v : Vec RsConstraint A) → i < length xs → v ≡ get_or xs i v
+      → plain_cases (take (i + 1) xs) ≡ plain_cases (take i xs) ++ map plain_constraint v.items ∷ []
+  plain_next xs i v l is =
+      ap (λ ks. plain_cases ks) (take_more xs i v l)
+      ∙ ap (λ x. plain_cases (take i xs ++ x ∷ [])) (sym is)
+      ∙ plain_append (take i xs) (v ∷ [])
 
   -- the products with one more case
   pub product_next : (xs : List (Vec RsConstraint A)) (i : ℕ) (v : Vec RsConstraint A) (ys : List (List Constraint)) → i < length xs → v ≡ get_or xs i v → product (plain_cases (take i xs)) ys ++ map (λ k. map plain_constraint v.items ++ k) ys ≡ product (plain_cases (take (i + 1) xs)) ys
@@ -59,3 +66,30 @@ module _ {A : Type 0} where
       tail_of : List (List Constraint) → List (List Constraint)
       tail_of [] = []
       tail_of (y ∷ ys) = ys
+
+  -- one more case joined to the case before it
+  pub each_next : (case : List RsConstraint) (xs : List (Vec RsConstraint A)) (i : ℕ) (v both : Vec RsConstraint A)
+      (made : List (Vec RsConstraint A)) (done : List (List Constraint)) → i < length xs → v ≡ get_or xs i v
+      → both.items ≡ case ++ v.items → plain_cases made ≡ done ++ map (λ k. map plain_constraint case ++ k)
+      (plain_cases (take i xs)) → plain_cases (made ++ both ∷ []) ≡ done ++ map (λ k. map plain_constraint case ++ k)
+      (plain_cases (take (i + 1) xs))
+  each_next case xs i v both made done l is b inv =
+      plain_append made (both ∷ [])
+      ∙ ap₂ (λ a k. a ++ k ∷ []) inv (ap (map plain_constraint) b ∙ map-append plain_constraint case v.items)
+      ∙ append_assoc done (map f (plain_cases (take i xs))) (f (map plain_constraint v.items) ∷ [])
+      ∙ ap (λ r. done ++ r) (sym (map-append f (plain_cases (take i xs)) (map plain_constraint v.items ∷ []))
+      ∙ sym (ap (map f) next))
+    where
+      f : List Constraint → List Constraint
+      f k = map plain_constraint case ++ k
+
+      next : plain_cases (take (i + 1) xs) ≡ plain_cases (take i xs) ++ map plain_constraint v.items ∷ []
+      next = plain_next xs i v l is
+
+  -- the systems with that of one more case
+  pub systems_next : (xs : List (Vec RsConstraint A)) (i : ℕ) (v : Vec RsConstraint A) → i < length xs
+      → v ≡ get_or xs i v → map system (plain_cases (take (i + 1) xs)) ≡ map system
+      (plain_cases (take i xs)) ++ system (map plain_constraint v.items) ∷ []
+  systems_next xs i v l is =
+      ap (map system) (plain_next xs i v l is)
+      ∙ map-append system (plain_cases (take i xs)) (map plain_constraint v.items ∷ [])

@@ -1,9 +1,9 @@
 -- Rows of constraints that are put last one by one, the equations apart.
-use Rattle.std.proofs.Common.{◌≡◌, ℕ, ◌+◌, ◌<◌, true, false, ◌&&◌, List, [], ◌∷◌, ◌++◌, map, length, get_or, drop, refl, sym, ap, ap₂, ◌∙◌, true≢false, add-one, append_assoc}
+use Rattle.std.proofs.Common.{◌≡◌, ℕ, ◌+◌, ◌<◌, ◌≤◌, true, false, ◌&&◌, List, [], ◌∷◌, ◌++◌, map, length, get_or, drop, refl, sym, ap, ap₂, ◌∙◌, true≢false, add-one, append_assoc}
 use Rattle.std.specs.Prelude.{nat_lt}
 use Rattle.std.specs.List.{list_all}
 use Rattle.std.proofs.Math.Seq.{drop-cons}
-use Rattle.std.proofs.lemmas.List.{map-append}
+use Rattle.std.proofs.lemmas.List.{map-append, append-nil, drop_all}
 use Rattle.std.proofs.lemmas.List.Folds.{list_all-append}
 use Rattle.affine_forms.specs.Affine.{Affine}
 use Rattle.affine_forms.specs.Atoms.{Atom}
@@ -47,3 +47,12 @@ below_put n done r h k =
     ap (are_below n) (map-append (λ r. map (λ t. t.variable) r.terms.items) done (r ∷ []))
     ∙ list_all-append (λ xs. list_all (λ x. nat_lt x n) xs) (map (λ r. map (λ t. t.variable) r.terms.items) done) (map (λ t. t.variable) r.terms.items ∷ [])
     ∙ ap₂ (λ a b. a && (b && true)) h k
+
+-- behind the last constraint no row is left
+pub all_put : (of : List Constraint → List Affine) (i : ℕ) (cs : List Stated)
+    (done : List Affine) {whole : List Affine} → length cs ≤ i → of [] ≡ []
+    → done ++ of (map plain_stated (drop i cs)) ≡ whole → done ≡ whole
+all_put of i cs done l e all =
+    sym (append-nil done)
+    ∙ ap (λ xs. done ++ xs) (sym (ap (λ rest. of (map plain_stated rest)) (drop_all i cs l) ∙ e))
+    ∙ all

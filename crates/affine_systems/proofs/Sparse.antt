@@ -1,8 +1,10 @@
 -- Sparse terms as the coefficients of all variables.
-use Rattle.std.proofs.Common.{◌≡◌, ℕ, zero, suc, ◌+◌, ◌<◌, ◌≤◌, ◌^◌, ◌==◌, nat_le, nat_lt, ℤ, pos, Bool, true, false, cond, ◌&&◌, List, [], ◌∷◌, ◌++◌, map, length, take, get_or, arith, refl, sym, ap, ap₂, ◌∙◌, add-one}
+use Rattle.std.proofs.Common.{◌≡◌, ℕ, zero, suc, ◌+◌, ◌<◌, ◌≤◌, ◌^◌, ◌==◌, nat_le, nat_lt, ℤ, pos, Bool, true, false, cond, not, ◌&&◌, List, [], ◌∷◌, ◌++◌, map, length, take, get_or, arith, refl, sym, ap, ap₂, ◌∙◌, add-one}
 use Rattle.std.proofs.lemmas.Bool.Decides.{nat_tests}
 use Rattle.std.proofs.lemmas.List.{take_more, take_all, map-append}
 use Rattle.std.specs.List.{list_all}
+use Rattle.std.specs.Ordering.{int_eq}
+use Rattle.std.proofs.lemmas.Grind.{common_steps}
 use Rattle.affine_forms.specs.declared.system.Term.{Term}
 use Rattle.affine_forms.specs.Bounds.{is_narrow, is_increasing, is_increasing_from}
 use Rattle.affine_forms.specs.System.{coefficient_of, below}
@@ -122,3 +124,6 @@ narrow_at (z ∷ cs) (suc k) h l = narrow_at cs k (and_parts (is_narrow z) (list
 
 pub narrow_fits : (z : ℤ) → is_narrow z ≡ true → FitsSigned w128 z
 narrow_fits z h = fits_within z (within_from_le (2 ^ 126) z (omega (arith, within_le (2 ^ 100) z h)))
+
+pub present : (z : ℤ) → (z ≡ pos 0 → ⊥) → not (int_eq z (pos 0)) ≡ true
+present z h = grind (arith, common_steps)

@@ -7,7 +7,7 @@ use Rattle.affine_forms.specs.Atoms.{same_atom}
 use Rattle.affine_forms.specs.Forms.{are_within}
 use Rattle.affine_forms.specs.TermBounds.{are_distinct}
 use Rattle.affine_forms.specs.PlainAtoms.{plain_atom, plain_terms}
-use Rattle.affine_forms.proofs.TermLists.{plain_drop}
+use Rattle.affine_forms.proofs.TermLists.{plain_drop, plain_end}
 use Rattle.affine_forms.proofs.TermWidths.{within_at, within_le, within_from_le, fits_within}
 use Rattle.affine_systems.specs.Systems.{numbered_onto, added_at}
 use Rattle.affine_systems.proofs.Numbers.{zeros_are, HasRoom, room_first, room_added, room_narrow, room_length, room_at, added_past, apart_at}
@@ -80,3 +80,9 @@ returns-clause-narrow c = room_narrow (plain_terms (drop c.loop-w.w-index c.as_s
 
 pub returns-clause-len : goal.returns-clause-len
 returns-clause-len c = room_length (plain_terms (drop c.loop-w.w-index c.as_slice-w-items.result.now)) (map plain_atom c.args.atoms.now) c.loop-w.all.items c.loop-w.invariant.room ∙ length-map c.args.atoms.now plain_atom
+
+pub returns-clause-value : goal.returns-clause-value
+returns-clause-value c =
+    ap (numbered_onto (map plain_atom c.args.atoms.now) c.loop-w.all.items)
+    (sym (plain_end c.as_slice-w-items.result.now c.loop-w.w-index c.loop-w-test.false))
+    ∙ c.loop-w.invariant.sum

@@ -1,4 +1,4 @@
-use Rattle.std.proofs.Common.{rules, FitsSigned, ◌∙◌, ◌+◌, ◌++◌, map, drop, length, sym, ap, ap₂}
+use Rattle.std.proofs.Common.{rules, FitsSigned, ◌∙◌, ◌+◌, ◌++◌, map, drop, length, refl, sym, ap, ap₂}
 use Rattle.std.proofs.lemmas.Int.{to_z-of_z}
 use Rattle.std.specs.Int.{w128}
 use Rattle.affine_forms.specs.Bounds.{are_below}
@@ -6,6 +6,7 @@ use Rattle.affine_forms.specs.PlainAtoms.{plain_atom}
 use Rattle.affine_forms.specs.System.{plain_row}
 use Rattle.affine_systems.specs.Systems.{affine, equations_of, rows_of}
 use Rattle.affine_systems.specs.PlainMade.{plain_stated}
+use Rattle.affine_systems.proofs.RowLists.{all_put}
 use Rattle.affine_systems.proofs.RowLists.{left_of, equations_first, equations_past, rows_first, rows_past, one_put, below_put}
 use Rattle.affine_systems.proofs.obligation.put_rows.Goals as goal
 use Rattle.affine_systems.proofs.obligation.put_rows.Goals.{then-is_equation+in_ok-push, else-is_equation+in_ok-push-2}
@@ -39,3 +40,12 @@ loop-c-preserved c =
             rows_below = ap (λ rs. are_below n (map (λ r. map (λ t. t.variable) r.terms.items) rs)) put ∙ below_put n c.loop-c.rows.items c.in_ok-r.r c.loop-c.invariant.rows_below c.in_ok-r.ensures.below;
           }
     ]
+
+pub returns-clause-equations : goal.returns-clause-equations
+returns-clause-equations c = all_put (equations_of (map plain_atom c.args.atoms.now)) c.loop-c.c-index c.args.cs.now
+    (map (plain_row (length c.args.atoms.now)) c.loop-c.equations.items) c.loop-c-test.false refl
+    c.loop-c.invariant.equations
+
+pub returns-clause-rows : goal.returns-clause-rows
+returns-clause-rows c = all_put (rows_of (map plain_atom c.args.atoms.now)) c.loop-c.c-index c.args.cs.now
+    (map (plain_row (length c.args.atoms.now)) c.loop-c.rows.items) c.loop-c-test.false refl c.loop-c.invariant.rows

@@ -1,5 +1,6 @@
-use Rattle.std.proofs.Common.{◌^◌, ◌-◌, ◌∙◌, ap, ap₂, arith, ◌&&◌}
-use Rattle.std.proofs.lemmas.Int.{to_z-of_z}
+use Rattle.std.proofs.Common.{◌≡◌, negsuc, sym, ◌^◌, ◌-◌, ◌∙◌, ap, ap₂, arith, ◌&&◌}
+use Rattle.std.proofs.lemmas.Int.{to_z-of_z, ints}
+use mir.Val.{to_z, of_z}
 use Rattle.std.specs.Int.{w64, w128}
 use Rattle.affine_forms.specs.Atoms.{divided}
 use Rattle.affine_forms.specs.Forms.{is_within, are_within, is_short, are_short}
@@ -42,3 +43,14 @@ join-requires-clause-kept c =
     let fr = fits_within c.rem_euclid.result (within_from_le (2 ^ 126) c.rem_euclid.result (omega (arith, within_le (2 ^ 64) c.rem_euclid.result small))) in
     let made = simp to_z-of_z at c.in_ok-atom.ensures in
     ap (λ d. is_kept_atom (atom_of d)) made ∙ (ap₂ (λ s t. s && t) c.requires (ap₂ (λ s t. s && t) small (ap₂ (λ s t. s && t) (ap are_short rest ∙ within_undivided (2 ^ 62) c.args.by c.self.inside.terms short.1) (ap₂ (λ s t. s && t) (ap are_distinct rest ∙ distinct_undivided c.args.by c.self.inside.terms c.self.invariant.1) (ap are_present rest ∙ present_undivided c.args.by c.self.inside.terms c.requires)))))
+
+pub rem_euclid-requires-clause-no_overflow : goal.rem_euclid-requires-clause-no_overflow
+rem_euclid-requires-clause-no_overflow c e f =
+    let n = c.self.inside.constant in
+    let short = and_parts (is_short n) (are_short c.self.inside.terms) c.self.invariant.0 in
+    let l = within_le (2 ^ 62) n short.0 in
+    let fi = fits_within n (within_from_le (2 ^ 126) n (omega (arith, l))) in
+    let least : n ≡ negsuc 170141183460469231731687303715884105727 =
+    sym (to_z-of_z w128 n fi) ∙ sym (to_z-of_z w128 (to_z w128 (of_z w128 n)) (rw (to_z-of_z w128 n fi) fi))
+    ∙ ap (to_z w128) f in
+    omega (arith, ints, l, least)
