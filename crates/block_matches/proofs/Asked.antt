@@ -1,6 +1,6 @@
 -- The forms that are asked for.
 use Rattle.std.proofs.Common.{◌≡◌, ℕ, pos, Bool, true, false, ◌&&◌, ◌||◌, not, if◌then◌else◌}
-use Rattle.std.proofs.Common.{List, ◌∷◌, Option, Some, None, refl, sym, ap, ap₂, ◌∙◌, true≢false}
+use Rattle.std.proofs.Common.{List, ◌∷◌, Option, Some, None, option_map, refl, sym, ap, ap₂, ◌∙◌, true≢false}
 use Rattle.exo_tree.specs.Tree.{Control, Lit}
 use Rattle.affine_forms.specs.Forms.{Reading, keeps_rules, is_writable}
 use Rattle.affine_forms.proofs.Values.{and_parts, none_some}
@@ -198,3 +198,9 @@ module _ (at : Reading) (m : Moving) (bound : ℕ → Bool) where
           | None ↦ None
           | Some ss ↦ argument_from at m bound whole b u.name ds ss
         ]) e
+
+    -- nothing fits
+    pub tried_none : {X : Type 0} (f : X → List Spot) (r : Option X)
+        → option_map f r ≡ fitting at m bound listed u us → r ≡ None
+        → None ≡ tried at m bound whole b ds u us listed
+    tried_none f r e h = sym (tried_is None (sym e ∙ ap (option_map f) h))

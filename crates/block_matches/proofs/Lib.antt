@@ -4,6 +4,7 @@ pub mod AllKnown
 pub mod Asked
 pub mod Choices
 pub mod Cuts
+pub mod Differing
 pub mod MatchedBy
 pub mod Named
 pub mod Outcomes

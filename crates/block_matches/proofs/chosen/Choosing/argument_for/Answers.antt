@@ -1,4 +1,4 @@
-use Rattle.std.proofs.Common.{sym, subst}
+use Rattle.std.proofs.Common.{ap, sym, subst, ◌∙◌}
 use Rattle.std.specs.Prelude.{◌≡◌, IfOk}
 use Rattle.std.specs.Result.{result_map_both}
 use Rattle.exo_tree.specs.Tree.{block}
@@ -31,3 +31,14 @@ returns-in-Tensor g c =
           (argument_is_short at theirs b q x (parameter_kind k)))
           (sym c.in-Tensor.is) c.buffer_argument.ensures.fits;
     }
+
+pub returns-in_ok-control_argument-in-Ctrl-clause-value : goal.returns-in_ok-control_argument-in-Ctrl-clause-value
+returns-in_ok-control_argument-in-Ctrl-clause-value g c =
+    let s = c.args.self.now in
+    let at = g.R.Reader.reading s.reader.now in
+    let theirs = names_in s.theirs.now in
+    let b = block s.against.now in
+    let q = procedure s.by.callee.now in
+    let x = c.args.p.now.binder.id.0 in
+    c.in_ok-control_argument-in-Ctrl.ensures
+    ∙ ap (λ k. plain.argument_for at theirs b q x (parameter_kind k)) (sym c.in-Ctrl.is)
