@@ -9,6 +9,7 @@ use Rattle.exo_tree.specs.Branches.{branch_of}
 use Rattle.exo_tree.proofs.Openings.{around_by, with_rest}
 use Rattle.exo_meaning.specs.Units.{is_empty}
 use Rattle.tree_edits.specs.Made.Passes.{has_nothing, is_alone}
+use Rattle.tree_edits.proofs.Inside.{inside}
 
 abbrev tested : Bool → Option Opened → Option Bool
 tested first x = option_map (λ (o : Opened). has_nothing first o.around) x
@@ -145,20 +146,8 @@ here_is count s path [] ss (Some b) e f h =
     ap Some h.1 ∙ sym (ap (λ (p : Path). alone_in count p (block ss)) e ∙ alone_last count s ss h.0)
 here_is count s path (t ∷ rest) ss x e f h = cc
 
-by_inner : (f : Block → Option Bool) (g : Statement → Option Block) (x : Option Statement) (y : Option Block)
-    → option_and_then g x ≡ y
-    → option_and_then (λ a. option_and_then f (g a)) x ≡ option_and_then f y
-by_inner f g None y h = ap (option_and_then f) h
-by_inner f g (Some a) y h = ap (option_and_then f) h
-
 pub inner_is : (count : ℕ) (s t : Step) (path rest : Path) (ss : List Statement) (x : Option Block)
     → path ≡ s ∷ rest → slice_get rest 0 ≡ Some t
     → option_and_then (branch_of t.branch) (slice_get ss s.index) ≡ x
     → alone_in count path (block ss) ≡ option_and_then (alone_in count rest) x
-inner_is count s t path [] ss x e f h = cc
-inner_is count s t path (u ∷ rest) ss x e f h =
-    let same : u ≡ t = cc in
-    ap (λ (p : Path). alone_in count p (block ss)) e
-    ∙ alone_more count s u rest ss
-    ∙ by_inner (alone_in count (u ∷ rest)) (branch_of u.branch) (slice_get ss s.index) x
-    (ap (λ (v : Step). option_and_then (branch_of v.branch) (slice_get ss s.index)) same ∙ h)
+inner_is count = inside (alone_in count) (alone_more count)

@@ -1,6 +1,7 @@
 pub mod Alone
 pub mod Costs
 pub mod Examples
+mod Inside
 mod Joined
 pub mod Pieces
 pub mod OfMade

@@ -7,6 +7,7 @@ use Rattle.exo_tree.specs.Context.{Context, After, InLoop, InThen, InElse}
 use Rattle.exo_tree.specs.Places.{Branch, Main, Else, Step, Path, Opened, parted, past, into, opened_in}
 use Rattle.exo_tree.specs.Branches.{branch_of}
 use Rattle.exo_tree.proofs.Openings.{around_by, with_rest}
+use Rattle.tree_edits.proofs.Inside.{inside}
 
 abbrev pub piece_of : Option Opened → Option Block
 piece_of x = option_map (λ (o : Opened). o.piece) x
@@ -104,20 +105,8 @@ taken_here count s path [] ss (Some ts) e f h =
     ∙ sym (ap (λ (p : Path). piece_in count p (block ss)) e ∙ past_some count s.index ss h.0)
 taken_here count s path (t ∷ rest) ss x e f h = cc
 
-by_inner : (f : Block → Option Block) (g : Statement → Option Block) (x : Option Statement) (y : Option Block)
-    → option_and_then g x ≡ y
-    → option_and_then (λ a. option_and_then f (g a)) x ≡ option_and_then f y
-by_inner f g None y h = ap (option_and_then f) h
-by_inner f g (Some a) y h = ap (option_and_then f) h
-
 pub taken_inside : (count : ℕ) (s t : Step) (path rest : Path) (ss : List Statement) (x : Option Block)
     → path ≡ s ∷ rest → slice_get rest 0 ≡ Some t
     → option_and_then (branch_of t.branch) (slice_get ss s.index) ≡ x
     → piece_in count path (block ss) ≡ option_and_then (piece_in count rest) x
-taken_inside count s t path [] ss x e f h = cc
-taken_inside count s t path (u ∷ rest) ss x e f h =
-    let same : u ≡ t = cc in
-    ap (λ (p : Path). piece_in count p (block ss)) e
-    ∙ piece_more count s u rest ss
-    ∙ by_inner (piece_in count (u ∷ rest)) (branch_of u.branch) (slice_get ss s.index) x
-    (ap (λ (v : Step). option_and_then (branch_of v.branch) (slice_get ss s.index)) same ∙ h)
+taken_inside count = inside (piece_in count) (piece_more count)

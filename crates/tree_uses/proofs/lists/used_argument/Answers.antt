@@ -1,48 +1,37 @@
-use Rattle.std.proofs.Common.{sym, ap, ap₂, ◌∙◌}
+use Rattle.std.proofs.Common.{Bool, refl, ap, ap₂}
 use Rattle.exo_tree.specs.PlainArgument.{argument}
 use Rattle.exo_tree.specs.Tree as tree
-use Rattle.tree_uses.specs.Uses.{used_argument, argument_fits}
+use Rattle.exo_tree.specs.declared.argument.Arg.{Arg}
+use Rattle.tree_uses.specs.Uses.{Uses, used_argument, argument_fits}
+use Rattle.tree_uses.proofs.Nodes.{node_made}
 use Rattle.tree_uses.proofs.lists.used_argument.Goals as goal
 
-pub returns-in_ok-control-in-Ctrl-clause-value : goal.returns-in_ok-control-in-Ctrl-clause-value
-returns-in_ok-control-in-Ctrl-clause-value g c =
-    let to = g.U.Uses.uses c.args.uses.now in
-    ap tree.ControlArg c.in_ok-control-in-Ctrl.ensures.value
-    ∙ sym (ap (λ x. used_argument to (argument x)) c.in-Ctrl.is)
+abbrev used : Uses → Arg → tree.Argument
+used to a = used_argument to (argument a)
 
-pub returns-in_ok-control-in-Ctrl-clause-fits : goal.returns-in_ok-control-in-Ctrl-clause-fits
-returns-in_ok-control-in-Ctrl-clause-fits g c =
-    let to = g.U.Uses.uses c.args.uses.now in
-    ap (λ x. argument_fits to (argument x)) c.in-Ctrl.is ∙ c.in_ok-control-in-Ctrl.ensures.fits
+abbrev fits : Uses → Arg → Bool
+fits to a = argument_fits to (argument a)
 
-pub returns-in_ok-used_condition-in-Cond-clause-value : goal.returns-in_ok-used_condition-in-Cond-clause-value
-returns-in_ok-used_condition-in-Cond-clause-value g c =
+pub returns-in_ok-control-in-Ctrl : goal.returns-in_ok-control-in-Ctrl
+returns-in_ok-control-in-Ctrl g c =
     let to = g.U.Uses.uses c.args.uses.now in
-    ap tree.ConditionArg c.in_ok-used_condition-in-Cond.ensures.value
-    ∙ sym (ap (λ x. used_argument to (argument x)) c.in-Cond.is)
+    let made = c.in_ok-control-in-Ctrl.ensures in
+    node_made (used to) (fits to) c.in-Ctrl.is (ap tree.ControlArg made.value) made.fits
 
-pub returns-in_ok-used_condition-in-Cond-clause-fits : goal.returns-in_ok-used_condition-in-Cond-clause-fits
-returns-in_ok-used_condition-in-Cond-clause-fits g c =
+pub returns-in_ok-used_condition-in-Cond : goal.returns-in_ok-used_condition-in-Cond
+returns-in_ok-used_condition-in-Cond g c =
     let to = g.U.Uses.uses c.args.uses.now in
-    ap (λ x. argument_fits to (argument x)) c.in-Cond.is ∙ c.in_ok-used_condition-in-Cond.ensures.fits
+    let made = c.in_ok-used_condition-in-Cond.ensures in
+    node_made (used to) (fits to) c.in-Cond.is (ap tree.ConditionArg made.value) made.fits
 
-pub returns-in_ok-whole-in-Whole-clause-value : goal.returns-in_ok-whole-in-Whole-clause-value
-returns-in_ok-whole-in-Whole-clause-value g c =
+pub returns-in_ok-whole-in-Whole : goal.returns-in_ok-whole-in-Whole
+returns-in_ok-whole-in-Whole g c =
     let to = g.U.Uses.uses c.args.uses.now in
-    c.in_ok-whole-in-Whole.ensures ∙ sym (ap (λ x. used_argument to (argument x)) c.in-Whole.is)
+    node_made (used to) (fits to) c.in-Whole.is c.in_ok-whole-in-Whole.ensures refl
 
-pub returns-in_ok-whole-in-Whole-clause-fits : goal.returns-in_ok-whole-in-Whole-clause-fits
-returns-in_ok-whole-in-Whole-clause-fits g c =
+pub returns-in_ok-coords-in-Window : goal.returns-in_ok-coords-in-Window
+returns-in_ok-coords-in-Window g c =
     let to = g.U.Uses.uses c.args.uses.now in
-    ap (λ x. argument_fits to (argument x)) c.in-Whole.is
-
-pub returns-in_ok-coords-in-Window-clause-value : goal.returns-in_ok-coords-in-Window-clause-value
-returns-in_ok-coords-in-Window-clause-value g c =
-    let to = g.U.Uses.uses c.args.uses.now in
-    ap₂ tree.Window c.name.ensures c.in_ok-coords-in-Window.ensures.value
-    ∙ sym (ap (λ x. used_argument to (argument x)) c.in-Window.is)
-
-pub returns-in_ok-coords-in-Window-clause-fits : goal.returns-in_ok-coords-in-Window-clause-fits
-returns-in_ok-coords-in-Window-clause-fits g c =
-    let to = g.U.Uses.uses c.args.uses.now in
-    ap (λ x. argument_fits to (argument x)) c.in-Window.is ∙ c.in_ok-coords-in-Window.ensures.fits
+    let made = c.in_ok-coords-in-Window.ensures in
+    node_made (used to) (fits to) c.in-Window.is
+    (ap₂ tree.Window c.name.ensures made.value) made.fits
