@@ -5,6 +5,7 @@ pub mod Values
 pub mod SameAtoms
 pub mod Distinct
 pub mod RowConstants
+mod RowSums
 pub mod NormalForm
 pub mod Strides
 pub mod LaterExtents

@@ -44,6 +44,3 @@ row_denied k h = let p = row_parts k h in row_from ((pos 0 -ℤ k) -ℤ pos 1) (
 
 pub row_less : (k : ℤ) → is_within (2 ^ 63 + 1) k ≡ true → is_row_constant (k -ℤ pos 1) ≡ true
 row_less k h = let l = within_le (2 ^ 63 + 1) k h in row_from (k -ℤ pos 1) (omega (arith, ints, l)) (omega (arith, ints, l))
-
-pub row_below : (k : ℤ) → is_within (2 ^ 63) k ≡ true → is_row_constant ((pos 0 -ℤ k) -ℤ pos 1) ≡ true
-row_below k h = let l = within_le (2 ^ 63) k h in row_from ((pos 0 -ℤ k) -ℤ pos 1) (omega (arith, ints, l)) (omega (arith, ints, l))

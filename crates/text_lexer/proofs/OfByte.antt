@@ -17,37 +17,36 @@ use Rattle.text_lexer.proofs.Choices.{this, skip}
 pub of_word : (b : ℕ) (rest bytes : List ℕ) → bytes ≡ b ∷ rest → true ≡ begins_name b →
     name_lexeme (take_while goes_on_name bytes) ≡ lexeme_of bytes
 of_word b rest bytes is word = rw is
-    (this _ _ _ word)
+    (this _ word)
 
 pub of_digits : (b : ℕ) (rest bytes : List ℕ) → bytes ≡ b ∷ rest → false ≡ begins_name b → true ≡ is_ascii_digit b →
     literal_lexeme (take_while is_ascii_digit bytes) ≡ lexeme_of bytes
 of_digits b rest bytes is word digit = rw is
-    (skip _ _ _ _ word (this _ _ _ digit))
+    (skip _ word (this _ digit))
 
 pub of_quote : (b : ℕ) (rest bytes : List ℕ) → bytes ≡ b ∷ rest → false ≡ begins_name b →
     false ≡ is_ascii_digit b → true ≡ is_quote b →
     string_lexeme (quoted b rest) ≡ lexeme_of bytes
 of_quote b rest bytes is word digit quote = rw is
-    (skip _ _ _ _ word (skip _ _ _ _ digit (this _ _ _ quote)))
+    (skip _ word (skip _ digit (this _ quote)))
 
 pub of_at : (b : ℕ) (rest bytes : List ℕ) → bytes ≡ b ∷ rest → false ≡ begins_name b →
     false ≡ is_ascii_digit b → false ≡ is_quote b → b ≡ 0x40 →
     decorator_lexeme (take_while goes_on_name rest) ≡ lexeme_of bytes
 of_at b rest bytes is word digit quote at = rw is
-    (skip _ _ _ _ word (skip _ _ _ _ digit (skip _ _ _ _ quote (this _ _ _ (sym (eq-eqb b 0x40 at))))))
+    (skip _ word (skip _ digit (skip _ quote (this _ (sym (eq-eqb b 0x40 at))))))
 
 pub of_sign : (b : ℕ) (rest bytes : List ℕ) → bytes ≡ b ∷ rest → false ≡ begins_name b →
     false ≡ is_ascii_digit b → false ≡ is_quote b → (b ≡ 0x40 → ⊥) → true ≡ is_printable b →
     sign_lexeme b rest ≡ lexeme_of bytes
 of_sign b rest bytes is word digit quote at printable = rw is
-    (skip _ _ _ _ word (skip _ _ _ _ digit (skip _ _ _ _ quote (skip _ _ _ _ (sym (ne_eqb b 0x40 at)) (this _ _ _
-    printable)))))
+    (skip _ word (skip _ digit (skip _ quote (skip _ (sym (ne_eqb b 0x40 at)) (this _ printable)))))
 
 pub of_foreign : (b : ℕ) (rest bytes : List ℕ) → bytes ≡ b ∷ rest → false ≡ begins_name b →
     false ≡ is_ascii_digit b → false ≡ is_quote b → (b ≡ 0x40 → ⊥) → false ≡ is_printable b →
     record { token = Bad Byte; width = 1 } ≡ lexeme_of bytes
 of_foreign b rest bytes is word digit quote at printable = rw is
-    (skip _ _ _ _ word (skip _ _ _ _ digit (skip _ _ _ _ quote (skip _ _ _ _ (sym (ne_eqb b 0x40 at)) (skip _ _ _ _
+    (skip _ word (skip _ digit (skip _ quote (skip _ (sym (ne_eqb b 0x40 at)) (skip _
     printable refl)))))
 
 -- widths
@@ -60,7 +59,7 @@ front_some : (f : ℕ → Bool) (b : ℕ) (rest bytes : List ℕ) → bytes ≡ 
 front_some f b rest bytes is here = rw (is, take_while-cons f b rest, ← here) (omega arith)
 
 name_goes_on : (b : ℕ) → true ≡ begins_name b → true ≡ goes_on_name b
-name_goes_on b word = this _ _ _ word
+name_goes_on b word = this _ word
 
 pub word_within : (p : Lexeme) (text bytes : List ℕ) → p ≡ name_lexeme text →
     text ≡ take_while goes_on_name bytes → p.width ≤ length bytes

@@ -34,44 +34,47 @@ use Rattle.text_lexer.specs.declared.lexeme.Lexeme.{Lexeme}
 record IsLong {A : Type 0} (text : List ℕ) (o : Option A) : Type 0 where
   long : (a : A) → o ≡ Some a → 2 ≤ length text
 
-key_is : (text key : List ℕ) → bytes_eq text key ≡ true → text ≡ key
-key_is text key is = (bytes_eq-Decides text key).0 is
-
-next_long : {A : Type 0} (text key : List ℕ) (a : A) (o : Option A) (n : ℕ) (found : Bool) → (found ≡ true → text ≡ key) → length key ≡ n → 2 ≤ n → IsLong text o → IsLong text (cond found (Some a) o)
-next_long text key a o n true is count long other = record { long = λ b e. omega (arith, long, count, ap length (is refl)) }
-next_long text key a o n false is count long other = other
+next_long : {A : Type 0} (text key : List ℕ) (a : A) (o : Option A) → nat_lt 1 (length key) ≡ true →
+    IsLong text o → IsLong text (cond (bytes_eq text key) (Some a) o)
+next_long text key a o long other = go (bytes_eq text key) (bytes_eq-Decides text key).0
+  where
+    go : (found : Bool) → (found ≡ true → text ≡ key) → IsLong text (cond found (Some a) o)
+    go true is =
+        let some = ltb-true 1 (length key) long in
+        record { long = λ b e. omega (arith, some, ap length (is refl)) }
+    go false is = other
 
 no_word : {A : Type 0} (text : List ℕ) → IsLong {A = A} text None
 no_word text = record { long = λ a e. cc (e) }
 
 word_long : (text : List ℕ) → IsLong text (word_of text)
 word_long text =
-    next_long text (codes "and") w.And _ 3 (bytes_eq text (codes "and")) (key_is text (codes "and")) refl (omega arith)
-    (next_long text (codes "assert") w.Assert _ 6 (bytes_eq text (codes "assert")) (key_is text (codes "assert")) refl (omega arith)
-    (next_long text (codes "class") w.Class _ 5 (bytes_eq text (codes "class")) (key_is text (codes "class")) refl (omega arith)
-    (next_long text (codes "def") w.Def _ 3 (bytes_eq text (codes "def")) (key_is text (codes "def")) refl (omega arith)
-    (next_long text (codes "else") w.Else _ 4 (bytes_eq text (codes "else")) (key_is text (codes "else")) refl (omega arith)
-    (next_long text (codes "for") w.For _ 3 (bytes_eq text (codes "for")) (key_is text (codes "for")) refl (omega arith)
-    (next_long text (codes "from") w.From _ 4 (bytes_eq text (codes "from")) (key_is text (codes "from")) refl (omega arith)
-    (next_long text (codes "if") w.If _ 2 (bytes_eq text (codes "if")) (key_is text (codes "if")) refl (omega arith)
-    (next_long text (codes "import") w.Import _ 6 (bytes_eq text (codes "import")) (key_is text (codes "import")) refl (omega arith)
-    (next_long text (codes "in") w.In _ 2 (bytes_eq text (codes "in")) (key_is text (codes "in")) refl (omega arith)
-    (next_long text (codes "or") w.Or _ 2 (bytes_eq text (codes "or")) (key_is text (codes "or")) refl (omega arith)
-    (next_long text (codes "pass") w.Pass _ 4 (bytes_eq text (codes "pass")) (key_is text (codes "pass")) refl (omega arith)
-    (next_long text (codes "relu") w.Relu _ 4 (bytes_eq text (codes "relu")) (key_is text (codes "relu")) refl (omega arith)
-    (next_long text (codes "select") w.Select _ 6 (bytes_eq text (codes "select")) (key_is text (codes "select")) refl (omega arith)
-    (next_long text (codes "seq") w.Seq _ 3 (bytes_eq text (codes "seq")) (key_is text (codes "seq")) refl (omega arith)
-    (next_long text (codes "stride") w.Stride _ 6 (bytes_eq text (codes "stride")) (key_is text (codes "stride")) refl (omega arith)
-    (next_long text (codes "True") w.True _ 4 (bytes_eq text (codes "True")) (key_is text (codes "True")) refl (omega arith)
-    (next_long text (codes "False") w.False _ 5 (bytes_eq text (codes "False")) (key_is text (codes "False")) refl (omega arith)
+    next_long text (codes "and") w.And _ refl
+    (next_long text (codes "assert") w.Assert _ refl
+    (next_long text (codes "class") w.Class _ refl
+    (next_long text (codes "def") w.Def _ refl
+    (next_long text (codes "else") w.Else _ refl
+    (next_long text (codes "for") w.For _ refl
+    (next_long text (codes "from") w.From _ refl
+    (next_long text (codes "if") w.If _ refl
+    (next_long text (codes "import") w.Import _ refl
+    (next_long text (codes "in") w.In _ refl
+    (next_long text (codes "or") w.Or _ refl
+    (next_long text (codes "pass") w.Pass _ refl
+    (next_long text (codes "relu") w.Relu _ refl
+    (next_long text (codes "select") w.Select _ refl
+    (next_long text (codes "seq") w.Seq _ refl
+    (next_long text (codes "stride") w.Stride _ refl
+    (next_long text (codes "True") w.True _ refl
+    (next_long text (codes "False") w.False _ refl
     (no_word text))))))))))))))))))
 
 decorator_long : (text : List ℕ) → IsLong text (decorator_of text)
 decorator_long text =
-    next_long text (codes "proc") d.Procedure _ 4 (bytes_eq text (codes "proc")) (key_is text (codes "proc")) refl (omega arith)
-    (next_long text (codes "instr") d.Instruction _ 5 (bytes_eq text (codes "instr")) (key_is text (codes "instr")) refl (omega arith)
-    (next_long text (codes "config") d.Configuration _ 6 (bytes_eq text (codes "config")) (key_is text (codes "config")) refl (omega arith)
-    (next_long text (codes "memory") d.MemoryClass _ 6 (bytes_eq text (codes "memory")) (key_is text (codes "memory")) refl (omega arith)
+    next_long text (codes "proc") d.Procedure _ refl
+    (next_long text (codes "instr") d.Instruction _ refl
+    (next_long text (codes "config") d.Configuration _ refl
+    (next_long text (codes "memory") d.MemoryClass _ refl
     (no_word text))))
 
 -- a token at the front of n bytes takes some of them, and no fewer than at the least

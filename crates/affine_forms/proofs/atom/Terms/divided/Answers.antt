@@ -10,17 +10,14 @@ use Rattle.affine_forms.proofs.TermLists.{made_step, made_end, divided_law}
 use Rattle.affine_forms.proofs.TermWidths.{kept_in, fits_within, within_quotient}
 use Rattle.affine_forms.proofs.atom.Terms.divided.Goals as goal
 
-pub push_if-requires-clause-narrow : goal.push_if-requires-clause-narrow
-push_if-requires-clause-narrow c =
+pub push_if-requires : goal.push_if-requires
+push_if-requires c =
     let kept = kept_in c.deref-w-items.result.now c.self.inside.items.items c.loop-w.w-index c.w-item.result c.deref-w-items.ensures.value c.loop-w-test.true c.w-item.is c.self.invariant in
     let fits = fits_within c.w-item.result.coefficient kept.0 in
     let fb = c.ranges.by in
     let q = simp to_z-of_z at c.div_euclid.ensures in
     let w = subst (λ z. is_within (2 ^ 126) z ≡ true) (sym q) (within_quotient (2 ^ 126) c.w-item.result.coefficient c.args.by c.requires kept.0) in
-    rw (to_z-of_z w128 c.div_euclid.result (fits_within c.div_euclid.result w)) w
-
-pub push_if-requires-clause-kept : goal.push_if-requires-clause-kept
-push_if-requires-clause-kept c = (kept_in c.deref-w-items.result.now c.self.inside.items.items c.loop-w.w-index c.w-item.result c.deref-w-items.ensures.value c.loop-w-test.true c.w-item.is c.self.invariant).1
+    record { narrow = rw (to_z-of_z w128 c.div_euclid.result (fits_within c.div_euclid.result w)) w; kept = kept.1 }
 
 pub loop-w-preserved : goal.loop-w-preserved
 loop-w-preserved c =

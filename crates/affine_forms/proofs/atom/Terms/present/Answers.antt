@@ -7,13 +7,10 @@ use Rattle.affine_forms.proofs.TermLists.{made_step, made_end, present_law}
 use Rattle.affine_forms.proofs.TermWidths.{kept_in, fits_within}
 use Rattle.affine_forms.proofs.atom.Terms.present.Goals as goal
 
-pub push_if-requires-clause-narrow : goal.push_if-requires-clause-narrow
-push_if-requires-clause-narrow c =
+pub push_if-requires : goal.push_if-requires
+push_if-requires c =
     let kept = kept_in c.deref-w-items.result.now c.self.inside.items.items c.loop-w.w-index c.w-item.result c.deref-w-items.ensures.value c.loop-w-test.true c.w-item.is c.self.invariant in
-    rw (to_z-of_z w128 c.w-item.result.coefficient (fits_within c.w-item.result.coefficient kept.0)) kept.0
-
-pub push_if-requires-clause-kept : goal.push_if-requires-clause-kept
-push_if-requires-clause-kept c = (kept_in c.deref-w-items.result.now c.self.inside.items.items c.loop-w.w-index c.w-item.result c.deref-w-items.ensures.value c.loop-w-test.true c.w-item.is c.self.invariant).1
+    record { narrow = rw (to_z-of_z w128 c.w-item.result.coefficient (fits_within c.w-item.result.coefficient kept.0)) kept.0; kept = kept.1 }
 
 pub loop-w-preserved : goal.loop-w-preserved
 loop-w-preserved c =

@@ -13,15 +13,12 @@ overflow_mul-by c =
     let product = within_scaled_in (2 ^ 126) c.args.by c.deref-w-items.result.now c.self.inside.items.items c.args.self.now c.loop-w.w-index c.w-item.result c.deref-w-items.ensures.value c.self.view_is c.loop-w-test.true c.w-item.is c.requires in
     rw (to_z-of_z w128 c.args.by c.ranges.by, to_z-of_z w128 c.w-item.result.coefficient (fits_within c.w-item.result.coefficient kept.0)) (fits_within (c.args.by *ℤ c.w-item.result.coefficient) product)
 
-pub push_if-requires-clause-narrow : goal.push_if-requires-clause-narrow
-push_if-requires-clause-narrow c =
+pub push_if-requires : goal.push_if-requires
+push_if-requires c =
     let kept = kept_in c.deref-w-items.result.now c.self.inside.items.items c.loop-w.w-index c.w-item.result c.deref-w-items.ensures.value c.loop-w-test.true c.w-item.is c.self.invariant in
     let fb = c.ranges.by in
     let product = within_scaled_in (2 ^ 126) c.args.by c.deref-w-items.result.now c.self.inside.items.items c.args.self.now c.loop-w.w-index c.w-item.result c.deref-w-items.ensures.value c.self.view_is c.loop-w-test.true c.w-item.is c.requires in
-    rw (to_z-of_z w128 c.args.by c.ranges.by, to_z-of_z w128 c.w-item.result.coefficient (fits_within c.w-item.result.coefficient kept.0), to_z-of_z w128 (c.args.by *ℤ c.w-item.result.coefficient) (fits_within (c.args.by *ℤ c.w-item.result.coefficient) product)) product
-
-pub push_if-requires-clause-kept : goal.push_if-requires-clause-kept
-push_if-requires-clause-kept c = (kept_in c.deref-w-items.result.now c.self.inside.items.items c.loop-w.w-index c.w-item.result c.deref-w-items.ensures.value c.loop-w-test.true c.w-item.is c.self.invariant).1
+    record { narrow = rw (to_z-of_z w128 c.args.by c.ranges.by, to_z-of_z w128 c.w-item.result.coefficient (fits_within c.w-item.result.coefficient kept.0), to_z-of_z w128 (c.args.by *ℤ c.w-item.result.coefficient) (fits_within (c.args.by *ℤ c.w-item.result.coefficient) product)) product; kept = kept.1 }
 
 pub loop-w-preserved : goal.loop-w-preserved
 loop-w-preserved c =

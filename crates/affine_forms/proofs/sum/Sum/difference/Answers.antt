@@ -1,47 +1,17 @@
-use Rattle.std.proofs.Common.{◌≡◌, ◌^◌, ◌-◌, ◌∙◌, ap, ap₂, negsuc, ◌+ℤ◌, ◌*ℤ◌, arith}
-use Rattle.std.proofs.lemmas.Int.{to_z-of_z}
-use Rattle.std.specs.Int.{w128}
-use Rattle.affine_forms.specs.Atoms.{present, terms_added}
-use Rattle.affine_forms.proofs.TermWidths.{within_le, within_from_le, fits_within, within_sum}
-use Rattle.affine_forms.proofs.RowConstants.{row_of_within}
+use Rattle.affine_forms.proofs.RowSums.{short_sum, difference_is}
 use Rattle.affine_forms.proofs.sum.Sum.difference.Goals as goal
 
 pub returns : goal.returns
 returns c =
-    let a = c.constant.result in
-    let b = c.constant-2.result in
-    let l = within_le (2 ^ 62) a c.constant.ensures.short in
-    let m = within_le (2 ^ 62) b c.constant-2.ensures.short in
-    let sum = within_sum (2 ^ 62) (2 ^ 62) (2 ^ 63) a b c.constant.ensures.short c.constant-2.ensures.short
-    (omega arith) in
-    let s = within_le (2 ^ 63) (a +ℤ b) sum in
-    let fa = fits_within a (within_from_le (2 ^ 126) a (omega (arith, l))) in
-    let fb = fits_within b (within_from_le (2 ^ 126) b (omega (arith, m))) in
-    let fs = fits_within (a +ℤ b) (within_from_le (2 ^ 126) (a +ℤ b) (omega (arith, s))) in
-    let second = c.constant-2.ensures.value ∙ ap (λ k. k.constant) c.in_ok-opposite.ensures in
-    let constant : a +ℤ b ≡ c.args.left.now.constant +ℤ (negsuc 0 *ℤ c.args.right.now.constant) =
-    ap₂ (λ x y. x +ℤ y) c.constant.ensures.value second in
-    let terms = c.in_ok-terms_left.ensures.value
-    ∙ ap (λ k. present (terms_added c.args.left.now.terms k.terms)) c.in_ok-opposite.ensures in
-    rw (to_z-of_z w128 a fa, to_z-of_z w128 b fb, to_z-of_z w128 (a +ℤ b) fs)
-    (λ i. record { constant = constant i; terms = terms i })
+    let s = short_sum c.constant.result c.constant-2.result
+    c.constant.ensures.short c.constant-2.ensures.short in
+    rw (s.left, s.right, s.both)
+    (difference_is c.args.left.now c.args.right.now c.constant.ensures.value
+    c.constant-2.ensures.value c.in_ok-opposite.ensures c.in_ok-terms_left.ensures.value)
 
 pub invariant_of-result : goal.invariant_of-result
 invariant_of-result c =
-    let a = c.constant.result in
-    let b = c.constant-2.result in
-    let l = within_le (2 ^ 62) a c.constant.ensures.short in
-    let m = within_le (2 ^ 62) b c.constant-2.ensures.short in
-    let sum = within_sum (2 ^ 62) (2 ^ 62) (2 ^ 63) a b c.constant.ensures.short c.constant-2.ensures.short
-    (omega arith) in
-    let s = within_le (2 ^ 63) (a +ℤ b) sum in
-    let fa = fits_within a (within_from_le (2 ^ 126) a (omega (arith, l))) in
-    let fb = fits_within b (within_from_le (2 ^ 126) b (omega (arith, m))) in
-    let fs = fits_within (a +ℤ b) (within_from_le (2 ^ 126) (a +ℤ b) (omega (arith, s))) in
-    let kept = c.in_ok-terms_left.ensures in (
-      rw (to_z-of_z w128 a fa, to_z-of_z w128 b fb, to_z-of_z w128 (a +ℤ b) fs)
-          (row_of_within (a +ℤ b) (within_from_le (2 ^ 64 - 1) (a +ℤ b) (omega (arith, s)))),
-      kept.narrow,
-      kept.distinct,
-      kept.present,
-    )
+    let s = short_sum c.constant.result c.constant-2.result
+    c.constant.ensures.short c.constant-2.ensures.short in
+    let kept = c.in_ok-terms_left.ensures in
+    (rw (s.left, s.right, s.both) s.row, kept.narrow, kept.distinct, kept.present)
