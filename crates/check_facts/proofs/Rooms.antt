@@ -1,8 +1,8 @@
 -- What a procedure that may be walked says of its statements: rules, and lengths of paths.
-use Rattle.std.proofs.Common.{◌≡◌, ℕ, zero, suc, ◌+◌, ◌<◌, ◌≤◌, nat_lt, Bool, true, false, cond, ◌&&◌, List, [], ◌∷◌, length, drop, arith, refl, sym, ap, ◌∙◌, length-append}
+use Rattle.std.proofs.Common.{◌≡◌, ℕ, zero, suc, ◌+◌, ◌<◌, ◌≤◌, nat_lt, Bool, true, false, cond, ◌&&◌, List, [], ◌∷◌, length, drop, arith, refl, sym, ap, ◌∙◌, subst, length-append}
 use Rattle.std.specs.Prelude.{Some}
 use Rattle.std.proofs.lemmas.Bool.Decides.{nat_tests}
-use Rattle.exo_tree.specs.Tree.{Statement, If, For, Block, block, statements}
+use Rattle.exo_tree.specs.Tree.{Condition, Statement, If, For, Block, block, statements}
 use Rattle.exo_tree.specs.Places.{Branch, Main, Else, Path}
 use Rattle.exo_tree.specs.Branches.{branch_of}
 use Rattle.exo_meaning.specs.Units.{larger, levels, step_levels, is_short}
@@ -74,22 +74,29 @@ pub record Inside (n : ℕ) (b : Block) : Type 0 where
   pub short : is_short b ≡ true
   pub room : n + levels b ≤ 32
 
+both_inside : (t : Condition) (c d : Block) → statement_keeps_rules (If t c d) ≡ true
+    → ((is_short c ≡ true) × (is_short d ≡ true))
+    × ((block_keeps_rules c ≡ true) × (block_keeps_rules d ≡ true))
+both_inside t c d h =
+    let short = is_short c && is_short d in
+    let keep = block_keeps_rules c && block_keeps_rules d in
+    let q = parts short keep (parts (condition_keeps_rules t) (short && keep) h).1 in
+    (parts (is_short c) (is_short d) q.0, parts (block_keeps_rules c) (block_keeps_rules d) q.1)
+
 pub inside : (n : ℕ) (t : Branch) (a : Statement) (b : Block) → branch_of t a ≡ Some b → statement_keeps_rules a ≡ true → n + step_levels a ≤ 32 → Inside n b
 inside n Main (For i lo hi c) b e h r =
     let p = parts (keeps_rules lo && keeps_rules hi) (is_short c && block_keeps_rules c) h in
     let q = parts (is_short c) (block_keeps_rules c) p.1 in
     let s : c ≡ b = cc in
-    record { rules = sym (ap block_keeps_rules s) ∙ q.1; short = sym (ap is_short s) ∙ q.0; room = let l = ap levels s in omega arith }
+    subst (Inside n) s (record { rules = q.1; short = q.0; room = omega arith })
 inside n Main (If t c d) b e h r =
-    let p = parts (condition_keeps_rules t) ((is_short c && is_short d) && (block_keeps_rules c && block_keeps_rules d)) h in
-    let q = parts (is_short c && is_short d) (block_keeps_rules c && block_keeps_rules d) p.1 in
-    let s : c ≡ b = cc in
+    let q = both_inside t c d h in
     let l = larger_left (levels c) (levels d) in
-    record { rules = sym (ap block_keeps_rules s) ∙ (parts (block_keeps_rules c) (block_keeps_rules d) q.1).0; short = sym (ap is_short s) ∙ (parts (is_short c) (is_short d) q.0).0; room = let m = ap levels s in omega arith }
+    let s : c ≡ b = cc in
+    subst (Inside n) s (record { rules = q.1.0; short = q.0.0; room = omega arith })
 inside n Else (If t c d) b e h r =
-    let p = parts (condition_keeps_rules t) ((is_short c && is_short d) && (block_keeps_rules c && block_keeps_rules d)) h in
-    let q = parts (is_short c && is_short d) (block_keeps_rules c && block_keeps_rules d) p.1 in
-    let s : d ≡ b = cc in
+    let q = both_inside t c d h in
     let l = larger_right (levels c) (levels d) in
-    record { rules = sym (ap block_keeps_rules s) ∙ (parts (block_keeps_rules c) (block_keeps_rules d) q.1).1; short = sym (ap is_short s) ∙ (parts (is_short c) (is_short d) q.0).1; room = let m = ap levels s in omega arith }
+    let s : d ≡ b = cc in
+    subst (Inside n) s (record { rules = q.1.1; short = q.0.1; room = omega arith })
 inside n _ _ b e h r = cc

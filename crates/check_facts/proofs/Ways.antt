@@ -1,12 +1,12 @@
 -- The way to a place, a step at a time: past the statements before it, and into a branch.
 use Rattle.std.proofs.Common.{◌≡◌, ℕ, zero, ◌+◌, ◌<◌, List, [], ◌∷◌, ◌++◌, drop, length, map, Option, Some, None, arith, refl, sym, ap, ◌∙◌}
-use Rattle.std.specs.Prelude.{IsSome, is_some}
+use Rattle.std.specs.Prelude.{IsSome}
 use Rattle.exo_tree.specs.Tree.{Statement, For, Block, block}
 use Rattle.exo_tree.specs.Places.{Branch, Step, Path, Opened, into, opened_in}
 use Rattle.exo_tree.specs.Branches.{branch_of}
 use Rattle.exo_tree.specs.PlainPlace.{step_taken}
 use Rattle.exo_tree.specs.declared.place.Step as taken
-use Rattle.meaning_laws.specs.KnownFields.{KnownFields, Telling, at_entry, path_in, known_at}
+use Rattle.meaning_laws.specs.KnownFields.{KnownFields, Telling, path_in, known_at}
 use Rattle.meaning_laws.specs.PlaceFacts.{facts_round}
 use Rattle.check_facts.specs.Walks.{passed, entered, known_inside}
 use Rattle.check_facts.proofs.Steps.{after_same}
@@ -82,10 +82,3 @@ module _ (tell : Telling) (outer : Path) (branch : Branch) where
   -- the block of the branch is the one that the program finds
   pub onward_in : (t : Branch) (onwards path : Path) (a : Statement) (b : Block) (o : Opened) (first now : KnownFields) → Some b ≡ branch_of t a → (w : Onward t onwards a path o first now) → opened_in 1 onwards b ≡ Some w.inner
   onward_in t onwards path a b o first now e w = ap (opened_in 1 onwards) (block_same b w.block_inside (e ∙ w.is_branch)) ∙ w.there
-
-  pub place_inside : (s t : Step) (rest : Path) (xs others : List Statement) (a : Statement) (b : Block) → drop s.index xs ≡ a ∷ others → Some b ≡ branch_of t.branch a → IsSome (opened_in 1 (s ∷ t ∷ rest) (block xs)) → IsSome (opened_in 1 (t ∷ rest) b)
-  place_inside s t rest xs others a b x e h =
-      let o = found (opened_in 1 (s ∷ t ∷ rest) (block xs)) h in
-      let path = path_in outer branch s.index in
-      let w = onward s t rest xs others a path o.place at_entry x refl o.is in
-      ap is_some (onward_in t.branch (t ∷ rest) path a b o.place at_entry (passed tell outer branch zero s.index (block xs) at_entry) e w)

@@ -6,7 +6,11 @@ use Rattle.std.proofs.lemmas.Result.{IfOk-weaker}
 use Rattle.std.proofs.Math.Bool.{or_assoc}
 use Rattle.std.proofs.lemmas.List.{drop_all, take_all, take-take, length-take}
 use Rattle.exo_tree.specs.Tree.{Statement}
+use Rattle.exo_tree.specs.PlainStatement.{statement}
+use Rattle.exo_tree.specs.declared.block.Stmt.{Stmt}
 use Rattle.exo_meaning.specs.Run.{roots_after}
+use Rattle.exo_modes.specs.Aliases.{roots_in}
+use Rattle.exo_modes.specs.declared.aliases.Alias.{Alias}
 
 -- ---- what is said of a thing by another
 
@@ -27,6 +31,17 @@ or_then x t e = t ∙ ap (λ b. b || x) (sym t ∙ e)
 -- the first one does not hold, and the second is known
 pub or_else : {r s b x : Bool} → s ≡ false → s ≡ b → r ≡ x → r ≡ (b || x)
 or_else f e g = ap₂ (λ b x. b || x) (sym f ∙ e) g
+
+-- of a node that has what its first part or the rest has: the first part has it
+pub first_has : {S : Type 0} (f : S → Bool) {e node a p : S} {r : Bool} (x : Bool) → e ≡ node
+    → f node ≡ (f a || x) → r ≡ true → p ≡ a → r ≡ f p → r ≡ f e
+first_has f x is whole t same e = at_node f is (or_then x t (by_same f same e) ∙ sym whole)
+
+-- the first part does not have it, and the rest is known
+pub rest_has : {S : Type 0} (f : S → Bool) {e node a p : S} {q r x : Bool} → e ≡ node
+    → f node ≡ (f a || x) → q ≡ false → p ≡ a → q ≡ f p → r ≡ x → r ≡ f e
+rest_has f is whole t same e rest =
+    at_node f is (or_else t (by_same f same e) rest ∙ sym whole)
 
 -- what was found stays found
 pub or_true : {m found : Bool} (here : Bool) → found ≡ true → m ≡ true → m ≡ (found || here)
@@ -82,3 +97,28 @@ kept_on n xs ys zs e h k = (
   sym (take-take n (length xs) ys h) ∙ ap (take n) k ∙ e,
   omega (arith, h, ap length k, length-take (length xs) ys),
 )
+
+-- ---- what a walk tells of a statement
+
+-- whether it does something, what names stand for behind it, and that the names before it are kept
+pub record Told (does : Statement → Bool) (items : List Alias) (s : Stmt) (here : Bool)
+    (new : List Alias) : Type 0 where
+  pub told : here ≡ does (statement s)
+  pub roots : roots_in new ≡ roots_after (statement s) (roots_in items)
+  pub kept : take (length items) new ≡ items
+
+-- of one that leaves the names as they are
+pub leaves_names : (does : Statement → Bool) (items : List Alias) {s a : Stmt} {new : List Alias}
+    {here : Bool} → s ≡ a → new ≡ items
+    → roots_in items ≡ roots_after (statement a) (roots_in items)
+    → here ≡ does (statement a) → Told does items s here new
+leaves_names does items is same none e = record {
+  told = at_node (λ s. does (statement s)) is e;
+  roots = at_node (λ s. roots_after (statement s) (roots_in items)) is (ap roots_in same ∙ none);
+  kept = same_kept _ _ same;
+}
+
+-- by what names stand for, read from a list that is the same
+pub by_roots : (f : (ℕ → ℕ) → Bool) {items known : List Alias} {r : Bool} → known ≡ items
+    → r ≡ f (roots_in known) → r ≡ f (roots_in items)
+by_roots f same e = by_same f (ap roots_in same) e

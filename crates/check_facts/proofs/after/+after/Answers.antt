@@ -1,28 +1,38 @@
-use Rattle.std.proofs.Common.{◌≡◌, ◌+◌, zero, if◌then◌else◌, length, drop, IfOk, arith, rules, sym, ap, subst}
-use Rattle.std.proofs.Common.{◌∙◌}
+use Rattle.std.proofs.Common.{◌≡◌, ℕ, ◌+◌, zero, if◌then◌else◌, length, drop, IfOk, arith, rules}
+use Rattle.std.proofs.Common.{refl, sym, ap, subst, ◌∙◌}
 use Rattle.std.proofs.lemmas.Bool.{eq-eqb, ne_eqb}
 use Rattle.exo_tree.specs.Tree.{block}
 use Rattle.exo_tree.specs.Branches.{branch_of}
-use Rattle.exo_tree.specs.Places.{Main, Else}
+use Rattle.exo_tree.specs.Places.{Path, Main, Else}
 use Rattle.exo_tree.specs.PlainArgument.{argument}
 use Rattle.exo_tree.specs.PlainPlace.{branch_taken}
 use Rattle.exo_tree.specs.PlainStatement.{statement}
+use Rattle.exo_tree.specs.declared.block.Stmt.{Stmt}
 use Rattle.exo_meaning.specs.Units.{step_levels}
-use Rattle.meaning_laws.specs.KnownFields.{Known, UnknownAt}
+use Rattle.meaning_laws.specs.KnownFields.{FieldValue, Known, UnknownAt}
 use Rattle.config_state.specs.FieldSets.{in_table}
 use Rattle.check_facts.specs.Values.{plain_value}
 use Rattle.check_facts.specs.Walks.{telling_of, kept_value, value_after, value_at_end}
+use Rattle.check_facts.specs.declared.basis.Basis.{Basis}
 use Rattle.check_facts.proofs.Rooms.{room_before, room_for, room_inside, rules_for, short_length, inside}
 use Rattle.check_facts.proofs.Steps.{writes_same, end_on, end_done}
 use Rattle.check_facts.proofs.after.+after.Goals as goal
+
+-- what the node says of a field is what the statement does
+after_node : (g : Basis) (f : ℕ) (path : Path) (v : FieldValue) {s a : Stmt} {w : FieldValue}
+    → s ≡ a → w ≡ value_after (telling_of g) f path (statement a) v
+    → w ≡ value_after (telling_of g) f path (statement s) v
+after_node g f path v is e =
+    e ∙ sym (ap (λ s. value_after (telling_of g) f path (statement s) v) is)
 
 pub after-returns-in-For : goal.after-returns-in-For
 after-returns-in-For t c =
     let g = c.args.basis.now in
     let same = writes_same (in_table g.writes.now) (telling_of g).writes c.args.f.0 (λ k. g.table k c.args.f.0 c.requires.field) (block c.in-For.b) in
-    c.unless_written.ensures
-    ∙ ap (λ may. if may then UnknownAt c.args.path.now else plain_value c.args.value) (c.writes.ensures ∙ same)
-    ∙ sym (ap (λ s. value_after (telling_of g) c.args.f.0 c.args.path.now (statement s) (plain_value c.args.value)) c.in-For.is)
+    after_node c.args.basis.now c.args.f.0 _ _ c.in-For.is
+    (c.unless_written.ensures
+    ∙ ap (λ may. if may then UnknownAt c.args.path.now else plain_value c.args.value)
+    (c.writes.ensures ∙ same))
 
 pub at_end-path_in-path-requires-clause-room : goal.at_end-path_in-path-requires-clause-room
 at_end-path_in-path-requires-clause-room t c =
@@ -67,8 +77,8 @@ after-returns-in-Call t c =
     let g = c.args.basis.now in
     let v = plain_value c.args.value in
     let may = c.call_writes.ensures ∙ g.table c.in-Call.k.0 c.args.f.0 c.requires.field in
-    c.unless_written-in-Call.ensures ∙ ap (λ t. if t then UnknownAt c.args.path.now else v) may
-    ∙ sym (ap (λ s. value_after (telling_of g) c.args.f.0 c.args.path.now (statement s) v) c.in-Call.is)
+    after_node c.args.basis.now c.args.f.0 _ _ c.in-Call.is
+    (c.unless_written-in-Call.ensures ∙ ap (λ t. if t then UnknownAt c.args.path.now else v) may)
 
 pub at_end-after-requires : goal.at_end-after-requires
 at_end-after-requires t c =
@@ -125,43 +135,29 @@ at_end-returns t c =
     (omega (arith, c.len-k-end.ensures, c.loop-k-test.false)) c.loop-k.invariant.value
 
 pub after-returns-in-Assign : goal.after-returns-in-Assign
-after-returns-in-Assign t c =
-    let v = plain_value c.args.value in
-    sym (ap (λ s. value_after (telling_of c.args.basis.now) c.args.f.0 c.args.path.now (statement s) v) c.in-Assign.is)
+after-returns-in-Assign t c = after_node c.args.basis.now c.args.f.0 _ _ c.in-Assign.is refl
 
 pub after-returns-in-Reduce : goal.after-returns-in-Reduce
-after-returns-in-Reduce t c =
-    let v = plain_value c.args.value in
-    sym (ap (λ s. value_after (telling_of c.args.basis.now) c.args.f.0 c.args.path.now (statement s) v) c.in-Reduce.is)
+after-returns-in-Reduce t c = after_node c.args.basis.now c.args.f.0 _ _ c.in-Reduce.is refl
 
 pub after-returns-in-Pass : goal.after-returns-in-Pass
-after-returns-in-Pass t c =
-    let v = plain_value c.args.value in
-    sym (ap (λ s. value_after (telling_of c.args.basis.now) c.args.f.0 c.args.path.now (statement s) v) c.in-Pass.is)
+after-returns-in-Pass t c = after_node c.args.basis.now c.args.f.0 _ _ c.in-Pass.is refl
 
 pub after-returns-in-Alloc : goal.after-returns-in-Alloc
-after-returns-in-Alloc t c =
-    let v = plain_value c.args.value in
-    sym (ap (λ s. value_after (telling_of c.args.basis.now) c.args.f.0 c.args.path.now (statement s) v) c.in-Alloc.is)
+after-returns-in-Alloc t c = after_node c.args.basis.now c.args.f.0 _ _ c.in-Alloc.is refl
 
 pub after-returns-in-View : goal.after-returns-in-View
-after-returns-in-View t c =
-    let v = plain_value c.args.value in
-    sym (ap (λ s. value_after (telling_of c.args.basis.now) c.args.f.0 c.args.path.now (statement s) v) c.in-View.is)
+after-returns-in-View t c = after_node c.args.basis.now c.args.f.0 _ _ c.in-View.is refl
 
 -- a field that is written, and another
 pub after-returns-then-f-g : goal.after-returns-then-f-g
 after-returns-then-f-g t c =
-    let f = c.args.f.0 in
-    let v = plain_value c.args.value in
-    let w = Known (argument c.in-Config.a) in
-    ap (λ b. if b then w else v) (sym (eq-eqb f c.in-Config.g.0 c.if-f-g.true))
-    ∙ sym (ap (λ s. value_after (telling_of c.args.basis.now) f c.args.path.now (statement s) v) c.in-Config.is)
+    after_node c.args.basis.now c.args.f.0 _ _ c.in-Config.is
+    (ap (λ b. if b then Known (argument c.in-Config.a) else plain_value c.args.value)
+    (sym (eq-eqb c.args.f.0 c.in-Config.g.0 c.if-f-g.true)))
 
 pub after-returns-else-f-g : goal.after-returns-else-f-g
 after-returns-else-f-g t c =
-    let f = c.args.f.0 in
-    let v = plain_value c.args.value in
-    let w = Known (argument c.in-Config.a) in
-    ap (λ b. if b then w else v) (sym (ne_eqb f c.in-Config.g.0 c.if-f-g.false))
-    ∙ sym (ap (λ s. value_after (telling_of c.args.basis.now) f c.args.path.now (statement s) v) c.in-Config.is)
+    after_node c.args.basis.now c.args.f.0 _ _ c.in-Config.is
+    (ap (λ b. if b then Known (argument c.in-Config.a) else plain_value c.args.value)
+    (sym (ne_eqb c.args.f.0 c.in-Config.g.0 c.if-f-g.false)))

@@ -1,12 +1,14 @@
-use Rattle.std.proofs.Common.{◌≡◌, true, ◌&&◌, [], refl, sym, subst}
-use Rattle.exo_tree.specs.Places.{Branch, Main, Else}
+use Rattle.std.proofs.Common.{◌≡◌, true, ◌&&◌, List, [], refl, sym, subst}
+use Rattle.exo_tree.specs.Places.{Branch}
 use Rattle.exo_tree.specs.PlainControl.{control, condition}
 use Rattle.exo_tree.specs.PlainPlace.{branch_taken}
 use Rattle.exo_tree.specs.PlainStatement.{statement}
 use Rattle.exo_tree.specs.Tree.{block}
 use Rattle.exo_tree.specs.declared.block.Stmt.{Stmt}
+use Rattle.exo_tree.specs.declared.place.Branch as taken
 use Rattle.exo_meaning.specs.Units.{is_short}
 use Rattle.meaning_laws.specs.KnownFields.{KnownFields}
+use Rattle.meaning_laws.specs.PlaceFacts.{PlaceFact}
 use Rattle.affine_forms.specs.Forms.{keeps_rules}
 use Rattle.affine_forms.specs.Formulas.{condition_keeps_rules}
 use Rattle.affine_places.specs.Rules.{block_keeps_rules, statement_keeps_rules}
@@ -29,6 +31,14 @@ none_entered (Stmt.Alloc x cell dims memory) b first h k = refl
 none_entered (Stmt.View w x coords) b first h k = refl
 none_entered (Stmt.Call f args) b first h k = refl
 
+-- the facts of a statement are those of its node, in the branch that is taken
+by_node : (P : List PlaceFact → Type 0) (first : KnownFields) (b t : taken.Branch) (s a : Stmt)
+    → b ≡ t → s ≡ a → P (entered (branch_taken t) (statement a) first)
+    → P (entered (branch_taken b) (statement s) first)
+by_node P first b t s a is_branch is h =
+    subst (λ b. P (entered (branch_taken b) (statement s) first)) (sym is_branch)
+    (subst (λ s. P (entered (branch_taken t) (statement s) first)) (sym is) h)
+
 pub returns-in-For : goal.returns-in-For
 returns-in-For c = λ first h.
     let r = c.add_bounds in
@@ -37,23 +47,15 @@ returns-in-For c = λ first h.
 
 pub returns-in-Main : goal.returns-in-Main
 returns-in-Main c = λ first h.
-    let g = c.args.basis.now in
-    let old = c.args.context.now in
     let r = c.add_holds in
-    subst (λ b. Added r.result g (entered (branch_taken b) (statement c.args.s.now) first) old r.new.context)
-    (sym c.in-Main.is)
-    (subst (λ s. Added r.result g (entered Main (statement s) first) old r.new.context) (sym c.in-If.is)
-    (r.ensures first h))
+    by_node (λ es. Added r.result c.args.basis.now es c.args.context.now r.new.context) first
+    _ _ _ _ c.in-Main.is c.in-If.is (r.ensures first h)
 
 pub returns-in-Else : goal.returns-in-Else
 returns-in-Else c = λ first h.
-    let g = c.args.basis.now in
-    let old = c.args.context.now in
     let r = c.add_fails in
-    subst (λ b. Added r.result g (entered (branch_taken b) (statement c.args.s.now) first) old r.new.context)
-    (sym c.in-Else.is)
-    (subst (λ s. Added r.result g (entered Else (statement s) first) old r.new.context) (sym c.in-If.is)
-    (r.ensures first h))
+    by_node (λ es. Added r.result c.args.basis.now es c.args.context.now r.new.context) first
+    _ _ _ _ c.in-Else.is c.in-If.is (r.ensures first h)
 
 pub returns-in_default : goal.returns-in_default
 returns-in_default c = λ first h.
@@ -69,20 +71,17 @@ add_bounds-requires c =
     (parts (keeps_rules (control f.lo) && keeps_rules (control f.hi)) (is_short b && block_keeps_rules b)
     (subst (λ s. statement_keeps_rules (statement s) ≡ true) f.is c.requires)).0
 
+-- a branching statement keeps the rules in its condition
+condition_rules : (s : Stmt) (c : _) (x y : _) → s ≡ Stmt.If c x y
+    → statement_keeps_rules (statement s) ≡ true → condition_keeps_rules (condition c) ≡ true
+condition_rules s c x y is h =
+    (parts (condition_keeps_rules (condition c))
+    ((is_short (block x) && is_short (block y))
+    && (block_keeps_rules (block x) && block_keeps_rules (block y)))
+    (subst (λ s. statement_keeps_rules (statement s) ≡ true) is h)).0
+
 pub add_holds-requires : goal.add_holds-requires
-add_holds-requires c =
-    let f = c.in-If in
-    let x = block f.field-1 in
-    let y = block f.field-2 in
-    (parts (condition_keeps_rules (condition f.c))
-    ((is_short x && is_short y) && (block_keeps_rules x && block_keeps_rules y))
-    (subst (λ s. statement_keeps_rules (statement s) ≡ true) f.is c.requires)).0
+add_holds-requires c = condition_rules c.args.s.now _ _ _ c.in-If.is c.requires
 
 pub add_fails-requires : goal.add_fails-requires
-add_fails-requires c =
-    let f = c.in-If in
-    let x = block f.field-1 in
-    let y = block f.field-2 in
-    (parts (condition_keeps_rules (condition f.c))
-    ((is_short x && is_short y) && (block_keeps_rules x && block_keeps_rules y))
-    (subst (λ s. statement_keeps_rules (statement s) ≡ true) f.is c.requires)).0
+add_fails-requires c = condition_rules c.args.s.now _ _ _ c.in-If.is c.requires

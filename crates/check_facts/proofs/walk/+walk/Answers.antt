@@ -1,26 +1,31 @@
-use Rattle.std.proofs.Common.{◌≡◌, ℕ, ◌<◌, ◌≤◌, ◌+◌, zero, ◌∷◌, drop, length, map, arith, refl, sym, ap, ◌∙◌, subst}
-use Rattle.std.proofs.Common.{Result, Ok, Err, IsErr, IfOk, OnOk}
+use Rattle.std.proofs.Common.{◌≡◌, ℕ, ◌<◌, ◌≤◌, ◌+◌, zero, List, ◌∷◌, drop, length, map, arith}
+use Rattle.std.proofs.Common.{refl, sym, ap, ◌∙◌, subst, Result, Ok, Err, IsErr, IfOk, OnOk}
 use Rattle.std.proofs.lemmas.Bool.{false≢true}
-use Rattle.std.specs.Prelude.{IsSome, is_some}
-use Rattle.exo_tree.specs.Tree.{block}
-use Rattle.exo_tree.specs.Places.{opened_in}
+use Rattle.std.specs.Prelude.{IsSome}
+use Rattle.exo_tree.specs.Tree.{Statement, Block, block}
+use Rattle.exo_tree.specs.Places.{Path, opened_in}
 use Rattle.exo_tree.specs.Branches.{branch_of}
 use Rattle.exo_tree.specs.PlainPlace.{branch_taken, step_taken}
 use Rattle.exo_tree.specs.PlainStatement.{statement}
-use Rattle.exo_meaning.specs.Units.{step_levels}
-use Rattle.meaning_laws.specs.KnownFields.{at_entry}
+use Rattle.exo_tree.specs.declared.place.Step as taken
+use Rattle.meaning_laws.specs.KnownFields.{KnownFields, at_entry, path_in}
 use Rattle.meaning_laws.specs.PlaceFacts.{facts_round}
 use Rattle.affine_forms.specs.declared.error.FormError.TheVariants.{Memory}
 use Rattle.check_facts.specs.Contexts.{facts_from}
 use Rattle.check_facts.specs.Tables.{known_in}
-use Rattle.check_facts.specs.Trails.{levels_of, step_to, Stand}
-use Rattle.check_facts.specs.Walks.{telling_of, passed, entered, known_inside, Added}
+use Rattle.check_facts.specs.Trails.{levels_of, step_to, Stand, StandIn}
+use Rattle.check_facts.specs.Walks.{telling_of, passed, entered, Added}
+use Rattle.check_facts.specs.declared.basis.Basis.{Basis}
+use Rattle.check_facts.specs.declared.level.Level.{Level}
 use Rattle.check_facts.proofs.Adding.{Came, none_added, left_early, refused_first}
-use Rattle.check_facts.proofs.Below.{before, head, stands_below, stands_behind, known_below, came_below, refused_below}
+use Rattle.check_facts.proofs.Below.{Descent, before, head, opened_by, goes, rules_here, room_here}
+use Rattle.check_facts.proofs.Below.{opens_inside, fits_inside, stands_below, stands_behind}
+use Rattle.check_facts.proofs.Below.{known_below, came_below, refused_below}
 use Rattle.check_facts.proofs.Fields.{facts_same}
-use Rattle.check_facts.proofs.Rooms.{rules_at, room_at, room_before, room_inside, short_length, inside}
+use Rattle.check_facts.proofs.Rooms.{room_before, short_length}
 use Rattle.check_facts.proofs.Trails.{stand_out, step_same}
-use Rattle.check_facts.proofs.Ways.{found, within, no_more, no_block, ended, onward, place_inside}
+use Rattle.check_facts.proofs.Ways.{found, within, no_more, no_block, ended}
+use Rattle.check_facts.proofs.walk.+walk.Goals.{After-path_in-path, In_ok-below}
 use Rattle.check_facts.proofs.walk.+walk.Goals as goal
 
 at_most : (k n : ℕ) → k < n → k ≤ n
@@ -37,6 +42,65 @@ no_value P (Err e) h = tt
 no_fact : {A E : Type 0} (P : Type 0) (r : Result A E) → IsErr r → OnOk r P
 no_fact P (Ok x) h = absurd (false≢true h)
 no_fact P (Err e) h = tt
+
+-- ---- the way into a branch of the statement of the level
+
+abbrev descent : (basis : Basis) (outer : Path) (level : Level) (whole : List Statement)
+    (steps rest : List taken.Step) (next : taken.Step) (here : Statement) (path : Path)
+    → steps ≡ next ∷ rest → drop level.index whole ≡ here ∷ drop (level.index + 1) whole
+    → path ≡ path_in outer (branch_taken level.branch) level.index → Descent
+descent basis outer level whole steps rest next here path goes_on is_here is_path = record {
+  basis = basis;
+  outer = outer;
+  level = level;
+  whole = whole;
+  others = drop (level.index + 1) whole;
+  here = here;
+  is_here = is_here;
+  path = path;
+  is_path = is_path;
+  steps = map step_taken steps;
+  next = step_taken next;
+  rest = map step_taken rest;
+  goes_on = ap (map step_taken) goes_on;
+}
+
+abbrev way_on : (t : ℕ) → After-path_in-path t → Descent
+way_on t c =
+    descent c.args.basis.now c.args.outer.now c.args.level c.args.b.now c.args.steps.now
+    c.in-Some.rest.now c.in-Some.next.now (statement c.statement-s.result.now)
+    c.path_in-path.result c.in-Some.ensures.cases.0 c.statement-s.ensures.value
+    c.path_in-path.ensures
+
+-- where the level of the block inside is found, and brought on to the next step
+module _ (t : ℕ) (c : In_ok-below t) where
+  abbrev way_down : Descent
+  way_down =
+      descent c.args.basis.now c.args.outer.now c.args.level c.args.b.now c.args.steps.now
+      c.in-Some.rest.now c.in-Some.next.now (statement c.statement-s.result.now)
+      c.path_in-path.result c.in-Some.ensures.cases.0 c.statement-s.ensures.value
+      c.path_in-path.ensures
+
+  abbrev block_inside : Block
+  block_inside = block c.in-Some-block.inner.now
+
+  stands : (first : KnownFields)
+      → StandIn way_down.basis way_down.outer (block way_down.whole) first way_down.level
+      (levels_of c.args.trail.now)
+      → StandIn way_down.basis way_down.path block_inside (head way_down first) c.in_ok-below.below
+      (levels_of c.bring.new.trail)
+  stands first h =
+      stands_below way_down block_inside c.in-Some-block.ensures first c.in_ok-found.found
+      c.in_ok-below.below (levels_of c.args.trail.now) (levels_of c.level_inside.new.trail)
+      (levels_of c.bring.new.trail) (ap branch_taken c.in_ok-found.ensures.branch) h
+      c.in_ok-found.ensures.stand c.in_ok-below.ensures.stand
+
+  same_step : step_to c.in_ok-below.below ≡ way_down.next
+  same_step =
+      step_same c.in_ok-below.below c.in-Some.next.now
+      (c.in_ok-below.ensures.branch ∙ c.in_ok-found.ensures.branch) c.in_ok-below.ensures.index
+
+-- ---- answers
 
 pub returns-in_default-clause-facts : goal.returns-in_default-clause-facts
 returns-in_default-clause-facts t c = λ first h o e.
@@ -67,223 +131,117 @@ path_in-path-requires-clause-number t c =
     omega arith
 
 pub enter-requires : goal.enter-requires
-enter-requires t c = rules_at c.args.level.index c.args.b.now (drop (c.args.level.index + 1) c.args.b.now) (statement c.statement-s.result.now) c.statement-s.ensures.value c.requires.rules
+enter-requires t c =
+    rules_here (way_on t (goal.at.enter-requires t c).After-path_in-path) c.requires.rules
 
 pub returns-in_err-enter-clause-facts : goal.returns-in_err-enter-clause-facts
 returns-in_err-enter-clause-facts t c = λ first h o e.
-    let g = c.args.basis.now in
-    let tell = telling_of g in
-    let l = c.args.level in
-    let outer = c.args.outer.now in
-    let branch = branch_taken l.branch in
-    let xs = c.args.b.now in
-    let a = statement c.statement-s.result.now in
-    let others = drop (l.index + 1) xs in
-    let path = c.path_in-path.result in
-    let n = step_taken c.in-Some.next.now in
-    let rest = map step_taken c.in-Some.rest.now in
-    let way = sym (ap (λ q. opened_in 1 (step_to l ∷ map step_taken q) (block xs)) c.in-Some.ensures.cases.0) in
-    let now = passed tell outer branch zero l.index (block xs) first in
-    let w = onward tell outer branch (step_to l) n rest xs others a path o first c.statement-s.ensures.value c.path_in-path.ensures (way ∙ e) in
-    subst (λ es. Added c.from_residual-in_err-enter.result g es c.args.context.now c.enter.new.context) (sym w.facts)
-    (left_early _ _ g _ _ _ c.from_residual-in_err-enter.ensures.1 (refused_first g (entered n.branch a now) (facts_round tell path n.branch zero w.inner.around w.inner.piece (known_inside tell path a now)) _ (c.in_err-enter.ensures now h.0)))
+    let d = way_on t (goal.at.returns-in_err-enter-clause-facts t c).After-path_in-path in
+    let g = d.basis in
+    let now = before d first in
+    let w = goes d o first e in
+    let r = c.from_residual-in_err-enter in
+    subst (λ es. Added r.result g es c.args.context.now c.enter.new.context) (sym w.facts)
+    (left_early _ _ g _ _ _ r.ensures.1 (refused_first g (entered d.next.branch d.here now)
+    (facts_round (telling_of g) d.path d.next.branch zero w.inner.around w.inner.piece
+    (head d first)) _ (c.in_err-enter.ensures now h.0)))
 
 pub unreachable-requires : goal.unreachable-requires
 unreachable-requires t c =
-    let g = c.args.basis.now in
-    let tell = telling_of g in
-    let l = c.args.level in
-    let outer = c.args.outer.now in
-    let branch = branch_taken l.branch in
-    let xs = c.args.b.now in
-    let a = statement c.statement-s.result.now in
-    let others = drop (l.index + 1) xs in
-    let path = c.path_in-path.result in
-    let n = step_taken c.in-Some.next.now in
-    let rest = map step_taken c.in-Some.rest.now in
-    let way = sym (ap (λ q. opened_in 1 (step_to l ∷ map step_taken q) (block xs)) c.in-Some.ensures.cases.0) in
-    let p = found (opened_in 1 (step_to l ∷ map step_taken c.args.steps.now) (block xs)) c.requires.place in
-    let w = onward tell outer branch (step_to l) n rest xs others a path p.place at_entry c.statement-s.ensures.value c.path_in-path.ensures (way ∙ p.is) in
+    let d = way_on t (goal.at.unreachable-requires t c).After-path_in-path in
+    let p = found (opened_by d) c.requires.place in
+    let w = goes d p.place at_entry p.is in
     no_block w.block_inside (c.in_default-block.ensures ∙ w.is_branch)
 
 pub level_inside-requires-clause-rules : goal.level_inside-requires-clause-rules
-level_inside-requires-clause-rules t c = rules_at c.args.level.index c.args.b.now (drop (c.args.level.index + 1) c.args.b.now) (statement c.statement-s.result.now) c.statement-s.ensures.value c.requires.rules
+level_inside-requires-clause-rules t c =
+    let d = way_on t (goal.at.level_inside-requires-clause-rules t c).After-path_in-path in
+    rules_here d c.requires.rules
 
 pub level_inside-requires-clause-room : goal.level_inside-requires-clause-room
 level_inside-requires-clause-room t c =
-    let a = statement c.statement-s.result.now in
-    room_inside c.args.outer.now c.path_in-path.result (branch_taken c.args.level.branch) c.args.level.index (step_levels a) c.path_in-path.ensures (room_at (length c.args.outer.now) c.args.level.index c.args.b.now (drop (c.args.level.index + 1) c.args.b.now) a c.statement-s.ensures.value c.requires.room)
+    let d = way_on t (goal.at.level_inside-requires-clause-room t c).After-path_in-path in
+    room_here d c.requires.room
 
 pub bring-requires-clause-within : goal.bring-requires-clause-within
 bring-requires-clause-within t c =
-    let g = c.args.basis.now in
-    let tell = telling_of g in
-    let l = c.args.level in
-    let outer = c.args.outer.now in
-    let branch = branch_taken l.branch in
-    let xs = c.args.b.now in
-    let a = statement c.statement-s.result.now in
-    let others = drop (l.index + 1) xs in
-    let path = c.path_in-path.result in
-    let n = step_taken c.in-Some.next.now in
-    let rest = map step_taken c.in-Some.rest.now in
-    let way = sym (ap (λ q. opened_in 1 (step_to l ∷ map step_taken q) (block xs)) c.in-Some.ensures.cases.0) in
-    let p = found (opened_in 1 (step_to l ∷ map step_taken c.args.steps.now) (block xs)) c.requires.place in
-    let inner = block c.in-Some-block.inner.now in
-    let there = place_inside tell outer branch (step_to l) n rest xs others a inner c.statement-s.ensures.value c.in-Some-block.ensures (ap is_some (way ∙ p.is)) in
-    at_most c.in-Some.next.now.index (length c.in-Some-block.inner.now) (within n rest c.in-Some-block.inner.now there)
+    let d = way_on t (goal.at.bring-requires-clause-within t c).After-path_in-path in
+    let i = c.in-Some-block in
+    let there = opens_inside d (block i.inner.now) i.ensures c.requires.place in
+    at_most c.in-Some.next.now.index (length i.inner.now) (within d.next d.rest i.inner.now there)
 
 pub bring-requires-clause-rules : goal.bring-requires-clause-rules
 bring-requires-clause-rules t c =
-    let a = statement c.statement-s.result.now in
-    let e = c.statement-s.ensures.value in
-    let room = room_inside c.args.outer.now c.path_in-path.result (branch_taken c.args.level.branch) c.args.level.index (step_levels a) c.path_in-path.ensures (room_at (length c.args.outer.now) c.args.level.index c.args.b.now (drop (c.args.level.index + 1) c.args.b.now) a e c.requires.room) in
-    (inside (length c.path_in-path.result) (branch_taken c.in-Some.next.now.branch) a (block c.in-Some-block.inner.now) (sym c.in-Some-block.ensures) (rules_at c.args.level.index c.args.b.now (drop (c.args.level.index + 1) c.args.b.now) a e c.requires.rules) room).rules
+    let d = way_on t (goal.at.bring-requires-clause-rules t c).After-path_in-path in
+    let i = c.in-Some-block in
+    (fits_inside d (block i.inner.now) i.ensures c.requires.rules c.requires.room).rules
 
 pub bring-requires-clause-short : goal.bring-requires-clause-short
 bring-requires-clause-short t c =
-    let a = statement c.statement-s.result.now in
-    let e = c.statement-s.ensures.value in
-    let room = room_inside c.args.outer.now c.path_in-path.result (branch_taken c.args.level.branch) c.args.level.index (step_levels a) c.path_in-path.ensures (room_at (length c.args.outer.now) c.args.level.index c.args.b.now (drop (c.args.level.index + 1) c.args.b.now) a e c.requires.room) in
-    (inside (length c.path_in-path.result) (branch_taken c.in-Some.next.now.branch) a (block c.in-Some-block.inner.now) (sym c.in-Some-block.ensures) (rules_at c.args.level.index c.args.b.now (drop (c.args.level.index + 1) c.args.b.now) a e c.requires.rules) room).short
+    let d = way_on t (goal.at.bring-requires-clause-short t c).After-path_in-path in
+    let i = c.in-Some-block in
+    (fits_inside d (block i.inner.now) i.ensures c.requires.rules c.requires.room).short
 
 pub bring-requires-clause-room : goal.bring-requires-clause-room
 bring-requires-clause-room t c =
-    let a = statement c.statement-s.result.now in
-    let e = c.statement-s.ensures.value in
-    let room = room_inside c.args.outer.now c.path_in-path.result (branch_taken c.args.level.branch) c.args.level.index (step_levels a) c.path_in-path.ensures (room_at (length c.args.outer.now) c.args.level.index c.args.b.now (drop (c.args.level.index + 1) c.args.b.now) a e c.requires.room) in
-    (inside (length c.path_in-path.result) (branch_taken c.in-Some.next.now.branch) a (block c.in-Some-block.inner.now) (sym c.in-Some-block.ensures) (rules_at c.args.level.index c.args.b.now (drop (c.args.level.index + 1) c.args.b.now) a e c.requires.rules) room).room
+    let d = way_on t (goal.at.bring-requires-clause-room t c).After-path_in-path in
+    let i = c.in-Some-block in
+    (fits_inside d (block i.inner.now) i.ensures c.requires.rules c.requires.room).room
 
 pub walk-requires : goal.walk-requires
 walk-requires t c =
-    let g = c.args.basis.now in
-    let tell = telling_of g in
-    let l = c.args.level in
-    let outer = c.args.outer.now in
-    let branch = branch_taken l.branch in
-    let xs = c.args.b.now in
-    let a = statement c.statement-s.result.now in
-    let others = drop (l.index + 1) xs in
-    let path = c.path_in-path.result in
-    let n = step_taken c.in-Some.next.now in
-    let rest = map step_taken c.in-Some.rest.now in
-    let way = sym (ap (λ q. opened_in 1 (step_to l ∷ map step_taken q) (block xs)) c.in-Some.ensures.cases.0) in
-    let p = found (opened_in 1 (step_to l ∷ map step_taken c.args.steps.now) (block xs)) c.requires.place in
-    let inner = block c.in-Some-block.inner.now in
-    let there = place_inside tell outer branch (step_to l) n rest xs others a inner c.statement-s.ensures.value c.in-Some-block.ensures (ap is_some (way ∙ p.is)) in
-    let room = room_inside outer path branch l.index (step_levels a) c.path_in-path.ensures (room_at (length outer) l.index xs others a c.statement-s.ensures.value c.requires.room) in
-    let i = inside (length path) n.branch a inner (sym c.in-Some-block.ensures) (rules_at l.index xs others a c.statement-s.ensures.value c.requires.rules) room in
-    let same = step_same c.in_ok-below.below c.in-Some.next.now (c.in_ok-below.ensures.branch ∙ c.in_ok-found.ensures.branch) c.in_ok-below.ensures.index in (
-      one_less (length c.in-Some.rest.now) (length c.args.steps.now) t c.decreases c.in-Some.ensures.cases.1,
-      (subst (λ s. IsSome (opened_in 1 (s ∷ rest) inner)) (sym same) there, (i.rules, (i.short, i.room))),
+    let b = (goal.at.walk-requires t c).In_ok-below in
+    let d = way_down t b in
+    let inner = block_inside t b in
+    let is = c.in-Some-block.ensures in
+    let there = opens_inside d inner is c.requires.place in
+    let i = fits_inside d inner is c.requires.rules c.requires.room in (
+      one_less (length c.in-Some.rest.now) (length c.args.steps.now) t c.decreases
+          c.in-Some.ensures.cases.1,
+      (
+        subst (λ s. IsSome (opened_in 1 (s ∷ d.rest) inner)) (sym (same_step t b)) there,
+        (i.rules, (i.short, i.room)),
+      ),
     )
 
 pub returns-in_err-facts-2-clause-facts : goal.returns-in_err-facts-2-clause-facts
 returns-in_err-facts-2-clause-facts t c = λ first h o e.
-    let g = c.args.basis.now in
-    let l = c.args.level in
-    let outer = c.args.outer.now in
-    let xs = c.args.b.now in
-    let a = statement c.statement-s.result.now in
-    let others = drop (l.index + 1) xs in
-    let path = c.path_in-path.result in
-    let n = step_taken c.in-Some.next.now in
-    let rest = map step_taken c.in-Some.rest.now in
-    let inner = block c.in-Some-block.inner.now in
-    let found = c.in_ok-found.found in
-    let below = c.in_ok-below.below in
-    let is = c.statement-s.ensures.value in
-    let is_path = c.path_in-path.ensures in
-    let is_block = c.in-Some-block.ensures in
-    let stands = stands_below g outer path l n rest xs others a inner first is is_path is_block found below
-    (levels_of c.args.trail.now) (levels_of c.level_inside.new.trail) (levels_of c.bring.new.trail)
-    (ap branch_taken c.in_ok-found.ensures.branch) h c.in_ok-found.ensures.stand c.in_ok-below.ensures.stand in
-    let way = sym (ap (λ q. opened_in 1 (step_to l ∷ map step_taken q) (block xs)) c.in-Some.ensures.cases.0) ∙ e in
-    let same = step_same below c.in-Some.next.now (c.in_ok-below.ensures.branch ∙ c.in_ok-found.ensures.branch)
-    c.in_ok-below.ensures.index in
-    left_early _ _ g _ _ _ c.from_residual-in_err-facts-2.ensures.1
-    (refused_below g outer path l n rest xs others a inner first is is_path is_block o way below same _
-    c.args.context.now c.enter.new.context (c.in_ok-enter.ensures (before g outer l xs first) h.0)
-    (c.in_err-facts-2.ensures.facts (head g outer path l xs a first) stands))
+    let b = (goal.at.returns-in_err-facts-2-clause-facts t c).In_ok-below in
+    let d = way_down t b in
+    left_early _ _ d.basis _ _ _ c.from_residual-in_err-facts-2.ensures.1
+    (refused_below d (block_inside t b) c.in-Some-block.ensures first o e c.in_ok-below.below
+    (same_step t b) _ c.args.context.now c.enter.new.context
+    (c.in_ok-enter.ensures (before d first) h.0)
+    (c.in_err-facts-2.ensures.facts (head d first) (stands t b first h)))
 
 pub returns-clause-facts : goal.returns-clause-facts
 returns-clause-facts t c = λ first h o e.
-    let g = c.args.basis.now in
-    let l = c.args.level in
-    let outer = c.args.outer.now in
-    let xs = c.args.b.now in
-    let a = statement c.statement-s.result.now in
-    let others = drop (l.index + 1) xs in
-    let path = c.path_in-path.result in
-    let n = step_taken c.in-Some.next.now in
-    let rest = map step_taken c.in-Some.rest.now in
-    let inner = block c.in-Some-block.inner.now in
-    let found = c.in_ok-found.found in
-    let below = c.in_ok-below.below in
-    let is = c.statement-s.ensures.value in
-    let is_path = c.path_in-path.ensures in
-    let is_block = c.in-Some-block.ensures in
-    let stands = stands_below g outer path l n rest xs others a inner first is is_path is_block found below
-    (levels_of c.args.trail.now) (levels_of c.level_inside.new.trail) (levels_of c.bring.new.trail)
-    (ap branch_taken c.in_ok-found.ensures.branch) h c.in_ok-found.ensures.stand c.in_ok-below.ensures.stand in
-    let way = sym (ap (λ q. opened_in 1 (step_to l ∷ map step_taken q) (block xs)) c.in-Some.ensures.cases.0) ∙ e in
-    let same = step_same below c.in-Some.next.now (c.in_ok-below.ensures.branch ∙ c.in_ok-found.ensures.branch)
-    c.in_ok-below.ensures.index in
-    came_below g outer path l n rest xs others a inner first is is_path is_block o way below same c.args.context.now
-    c.enter.new.context c.walk.new.context (c.in_ok-enter.ensures (before g outer l xs first) h.0)
-    (c.in_ok-facts-2.ensures.facts (head g outer path l xs a first) stands)
+    let b = (goal.at.returns-clause-facts t c).In_ok-below in
+    let d = way_down t b in
+    came_below d (block_inside t b) c.in-Some-block.ensures first o e c.in_ok-below.below
+    (same_step t b) c.args.context.now c.enter.new.context c.walk.new.context
+    (c.in_ok-enter.ensures (before d first) h.0)
+    (c.in_ok-facts-2.ensures.facts (head d first) (stands t b first h))
 
 pub returns-clause-known : goal.returns-clause-known
 returns-clause-known t c = λ first h o e.
-    let g = c.args.basis.now in
-    let l = c.args.level in
-    let outer = c.args.outer.now in
-    let xs = c.args.b.now in
-    let a = statement c.statement-s.result.now in
-    let others = drop (l.index + 1) xs in
-    let path = c.path_in-path.result in
-    let n = step_taken c.in-Some.next.now in
-    let rest = map step_taken c.in-Some.rest.now in
-    let inner = block c.in-Some-block.inner.now in
-    let found = c.in_ok-found.found in
-    let below = c.in_ok-below.below in
-    let is = c.statement-s.ensures.value in
-    let is_path = c.path_in-path.ensures in
-    let is_block = c.in-Some-block.ensures in
-    let stands = stands_below g outer path l n rest xs others a inner first is is_path is_block found below
-    (levels_of c.args.trail.now) (levels_of c.level_inside.new.trail) (levels_of c.bring.new.trail)
-    (ap branch_taken c.in_ok-found.ensures.branch) h c.in_ok-found.ensures.stand c.in_ok-below.ensures.stand in
-    let way = sym (ap (λ q. opened_in 1 (step_to l ∷ map step_taken q) (block xs)) c.in-Some.ensures.cases.0) ∙ e in
-    let same = step_same below c.in-Some.next.now (c.in_ok-below.ensures.branch ∙ c.in_ok-found.ensures.branch)
-    c.in_ok-below.ensures.index in
-    known_below g outer path l n rest xs others a inner first is is_path is_block o way below same c.in_ok-facts-2.facts
-    (c.in_ok-facts-2.ensures.known (head g outer path l xs a first) stands)
+    let b = (goal.at.returns-clause-known t c).In_ok-below in
+    let d = way_down t b in
+    known_below d (block_inside t b) c.in-Some-block.ensures first o e c.in_ok-below.below
+    (same_step t b) c.in_ok-facts-2.facts
+    (c.in_ok-facts-2.ensures.known (head d first) (stands t b first h))
 
 pub returns-clause-stand : goal.returns-clause-stand
 returns-clause-stand t c = λ first h blocks e.
-    let g = c.args.basis.now in
-    let l = c.args.level in
-    let outer = c.args.outer.now in
-    let xs = c.args.b.now in
-    let a = statement c.statement-s.result.now in
-    let others = drop (l.index + 1) xs in
-    let path = c.path_in-path.result in
-    let n = step_taken c.in-Some.next.now in
-    let rest = map step_taken c.in-Some.rest.now in
-    let inner = block c.in-Some-block.inner.now in
-    let found = c.in_ok-found.found in
-    let below = c.in_ok-below.below in
-    let is = c.statement-s.ensures.value in
-    let is_path = c.path_in-path.ensures in
-    let is_block = c.in-Some-block.ensures in
-    let stands = stands_below g outer path l n rest xs others a inner first is is_path is_block found below
-    (levels_of c.args.trail.now) (levels_of c.level_inside.new.trail) (levels_of c.bring.new.trail)
-    (ap branch_taken c.in_ok-found.ensures.branch) h c.in_ok-found.ensures.stand c.in_ok-below.ensures.stand in
+    let b = (goal.at.returns-clause-stand t c).In_ok-below in
+    let d = way_down t b in
     let same = c.in_ok-below.ensures.branch ∙ c.in_ok-found.ensures.branch in
-    let block_below = ap (λ v. branch_of (branch_taken v) a) same ∙ sym is_block in
-    let told = c.in_ok-facts-2.ensures.stand (head g outer path l xs a first) stands (λ u. branch_of u a) block_below in
-    stands_behind g outer path l n rest xs others a inner first is is_path is_block blocks (levels_of c.walk.new.trail)
-    (levels_of c.put-2.new.self) c.in_ok-put-2.ensures e h.0 told
+    let block_below = ap (λ v. branch_of (branch_taken v) d.here) same
+    ∙ sym c.in-Some-block.ensures in
+    let told = c.in_ok-facts-2.ensures.stand (head d first) (stands t b first h)
+    (λ u. branch_of u d.here) block_below in
+    stands_behind d first blocks (levels_of c.walk.new.trail) (levels_of c.put-2.new.self)
+    c.in_ok-put-2.ensures e h.0 told
 
 pub returns-in_default-clause-stand : goal.returns-in_default-clause-stand
 returns-in_default-clause-stand t c = λ first h blocks e.

@@ -1,8 +1,8 @@
 use Rattle.std.proofs.Common.{◌&&◌, ◌^◌, Bool, ap, ◌∙◌}
-use Rattle.exo_effects.specs.Accesses.{access_of, use_fits}
+use Rattle.exo_effects.specs.Accesses.{access_of}
 use Rattle.exo_effects.specs.Conflicts.{meeting, pair_fits}
 use Rattle.exo_effects.specs.PlainUses.{plain_use}
-use Rattle.effect_conflicts.specs.PlainCopies.{plain_order, order_fits}
+use Rattle.effect_conflicts.specs.PlainCopies.{plain_order}
 use Rattle.effect_conflicts.proofs.Answered.{not_made, wide_context, wide_meeting, both_fit}
 use Rattle.effect_conflicts.proofs.listing.met.Goals as goal
 

@@ -1,4 +1,5 @@
-use Rattle.std.proofs.Common.{arith, ap}
+use Rattle.std.proofs.Common.{ℕ, Bool, List, arith, refl, ap}
+use Rattle.exo_tree.specs.declared.data.DataExpr.{DataExpr}
 use Rattle.exo_tree.specs.declared.data.DataExpr.TheViews.{size-DataExpr, sized-Neg, sized-Relu, sized-Add}
 use Rattle.exo_tree.specs.declared.data.DataExpr.TheViews.{sized-Sub, sized-Mul, sized-Select}
 use Rattle.exo_tree.specs.PlainDatum.{datum}
@@ -6,8 +7,12 @@ use Rattle.inplace_laws.specs.CallInPlace.{no_name}
 use Rattle.inplace_laws.specs.Uses.{in_datum}
 use Rattle.buffer_laws.specs.Staging.Alone.{has_root}
 use Rattle.exo_modes.specs.Aliases.{roots_in}
-use Rattle.piece_modes.proofs.Found.{at_node, by_same, or_then, or_else}
+use Rattle.exo_modes.specs.declared.aliases.Alias.{Alias}
+use Rattle.piece_modes.proofs.Found.{at_node, by_same, or_then, or_else, first_has, rest_has}
 use Rattle.piece_modes.proofs.strides.expressions.+datum_uses.Goals as goal
+
+abbrev uses : List Alias → ℕ → DataExpr → Bool
+uses items y e = in_datum no_name (has_root (roots_in items) y) (datum e)
 
 pub datum_uses-requires : goal.datum_uses-requires
 datum_uses-requires t c =
@@ -83,95 +88,84 @@ datum_uses-requires-else-datum_uses-6 t c =
 
 pub returns-in-Neg : goal.returns-in-Neg
 returns-in-Neg t c =
-    let uses = in_datum no_name (has_root (roots_in c.args.aliases.now) c.args.y) in
-    at_node (λ e. uses (datum e)) c.in-Neg.is (by_same (λ e. uses (datum e)) c.deref.ensures c.datum_uses.ensures)
+    let f = uses c.args.aliases.now c.args.y in
+    at_node f c.in-Neg.is (by_same f c.deref.ensures c.datum_uses.ensures)
 
 pub returns-in-Relu : goal.returns-in-Relu
 returns-in-Relu t c =
-    let uses = in_datum no_name (has_root (roots_in c.args.aliases.now) c.args.y) in
-    at_node (λ e. uses (datum e)) c.in-Relu.is
-    (by_same (λ e. uses (datum e)) c.deref-in-Relu.ensures c.datum_uses-in-Relu.ensures)
+    let f = uses c.args.aliases.now c.args.y in
+    at_node f c.in-Relu.is (by_same f c.deref-in-Relu.ensures c.datum_uses-in-Relu.ensures)
 
 pub returns-then-datum_uses : goal.returns-then-datum_uses
 returns-then-datum_uses t c =
-    let uses = in_datum no_name (has_root (roots_in c.args.aliases.now) c.args.y) in
-    at_node (λ e. uses (datum e)) c.in-Add.is
-    (or_then _ c.if-datum_uses.true
-    (by_same (λ e. uses (datum e)) c.deref-in-Add.ensures c.datum_uses-in-Add.ensures))
+    let f = uses c.args.aliases.now c.args.y in
+    first_has f _ c.in-Add.is refl c.if-datum_uses.true c.deref-in-Add.ensures
+    c.datum_uses-in-Add.ensures
 
 pub returns-else-datum_uses : goal.returns-else-datum_uses
 returns-else-datum_uses t c =
-    let uses = in_datum no_name (has_root (roots_in c.args.aliases.now) c.args.y) in
-    at_node (λ e. uses (datum e)) c.in-Add.is
-    (or_else c.if-datum_uses.false
-    (by_same (λ e. uses (datum e)) c.deref-in-Add.ensures c.datum_uses-in-Add.ensures)
-    (by_same (λ e. uses (datum e)) c.deref-else-datum_uses.ensures c.datum_uses-else-datum_uses.ensures))
+    let f = uses c.args.aliases.now c.args.y in
+    rest_has f c.in-Add.is refl c.if-datum_uses.false c.deref-in-Add.ensures
+    c.datum_uses-in-Add.ensures
+    (by_same f c.deref-else-datum_uses.ensures c.datum_uses-else-datum_uses.ensures)
 
 pub returns-then-datum_uses-2 : goal.returns-then-datum_uses-2
 returns-then-datum_uses-2 t c =
-    let uses = in_datum no_name (has_root (roots_in c.args.aliases.now) c.args.y) in
-    at_node (λ e. uses (datum e)) c.in-Sub.is
-    (or_then _ c.if-datum_uses-2.true
-    (by_same (λ e. uses (datum e)) c.deref-in-Sub.ensures c.datum_uses-in-Sub.ensures))
+    let f = uses c.args.aliases.now c.args.y in
+    first_has f _ c.in-Sub.is refl c.if-datum_uses-2.true c.deref-in-Sub.ensures
+    c.datum_uses-in-Sub.ensures
 
 pub returns-else-datum_uses-2 : goal.returns-else-datum_uses-2
 returns-else-datum_uses-2 t c =
-    let uses = in_datum no_name (has_root (roots_in c.args.aliases.now) c.args.y) in
-    at_node (λ e. uses (datum e)) c.in-Sub.is
-    (or_else c.if-datum_uses-2.false
-    (by_same (λ e. uses (datum e)) c.deref-in-Sub.ensures c.datum_uses-in-Sub.ensures)
-    (by_same (λ e. uses (datum e)) c.deref-else-datum_uses-2.ensures c.datum_uses-else-datum_uses-2.ensures))
+    let f = uses c.args.aliases.now c.args.y in
+    rest_has f c.in-Sub.is refl c.if-datum_uses-2.false c.deref-in-Sub.ensures
+    c.datum_uses-in-Sub.ensures
+    (by_same f c.deref-else-datum_uses-2.ensures c.datum_uses-else-datum_uses-2.ensures)
 
 pub returns-then-datum_uses-3 : goal.returns-then-datum_uses-3
 returns-then-datum_uses-3 t c =
-    let uses = in_datum no_name (has_root (roots_in c.args.aliases.now) c.args.y) in
-    at_node (λ e. uses (datum e)) c.in-Mul.is
-    (or_then _ c.if-datum_uses-3.true
-    (by_same (λ e. uses (datum e)) c.deref-in-Mul.ensures c.datum_uses-in-Mul.ensures))
+    let f = uses c.args.aliases.now c.args.y in
+    first_has f _ c.in-Mul.is refl c.if-datum_uses-3.true c.deref-in-Mul.ensures
+    c.datum_uses-in-Mul.ensures
 
 pub returns-else-datum_uses-3 : goal.returns-else-datum_uses-3
 returns-else-datum_uses-3 t c =
-    let uses = in_datum no_name (has_root (roots_in c.args.aliases.now) c.args.y) in
-    at_node (λ e. uses (datum e)) c.in-Mul.is
-    (or_else c.if-datum_uses-3.false
-    (by_same (λ e. uses (datum e)) c.deref-in-Mul.ensures c.datum_uses-in-Mul.ensures)
-    (by_same (λ e. uses (datum e)) c.deref-else-datum_uses-3.ensures c.datum_uses-else-datum_uses-3.ensures))
+    let f = uses c.args.aliases.now c.args.y in
+    rest_has f c.in-Mul.is refl c.if-datum_uses-3.false c.deref-in-Mul.ensures
+    c.datum_uses-in-Mul.ensures
+    (by_same f c.deref-else-datum_uses-3.ensures c.datum_uses-else-datum_uses-3.ensures)
 
 pub returns-then-datum_uses-4 : goal.returns-then-datum_uses-4
 returns-then-datum_uses-4 t c =
-    let uses = in_datum no_name (has_root (roots_in c.args.aliases.now) c.args.y) in
-    at_node (λ e. uses (datum e)) c.in-Select.is
-    (or_then _ c.if-datum_uses-4.true
-    (by_same (λ e. uses (datum e)) c.deref-in-Select.ensures c.datum_uses-in-Select.ensures))
+    let f = uses c.args.aliases.now c.args.y in
+    first_has f _ c.in-Select.is refl c.if-datum_uses-4.true c.deref-in-Select.ensures
+    c.datum_uses-in-Select.ensures
 
 pub returns-then-datum_uses-5 : goal.returns-then-datum_uses-5
 returns-then-datum_uses-5 t c =
-    let uses = in_datum no_name (has_root (roots_in c.args.aliases.now) c.args.y) in
-    at_node (λ e. uses (datum e)) c.in-Select.is
-    (or_else c.if-datum_uses-4.false
-    (by_same (λ e. uses (datum e)) c.deref-in-Select.ensures c.datum_uses-in-Select.ensures)
+    let f = uses c.args.aliases.now c.args.y in
+    rest_has f c.in-Select.is refl c.if-datum_uses-4.false c.deref-in-Select.ensures
+    c.datum_uses-in-Select.ensures
     (or_then _ c.if-datum_uses-5.true
-    (by_same (λ e. uses (datum e)) c.deref-else-datum_uses-4.ensures c.datum_uses-else-datum_uses-4.ensures)))
+    (by_same f c.deref-else-datum_uses-4.ensures c.datum_uses-else-datum_uses-4.ensures))
 
 pub returns-then-datum_uses-6 : goal.returns-then-datum_uses-6
 returns-then-datum_uses-6 t c =
-    let uses = in_datum no_name (has_root (roots_in c.args.aliases.now) c.args.y) in
-    at_node (λ e. uses (datum e)) c.in-Select.is
-    (or_else c.if-datum_uses-4.false
-    (by_same (λ e. uses (datum e)) c.deref-in-Select.ensures c.datum_uses-in-Select.ensures)
+    let f = uses c.args.aliases.now c.args.y in
+    rest_has f c.in-Select.is refl c.if-datum_uses-4.false c.deref-in-Select.ensures
+    c.datum_uses-in-Select.ensures
     (or_else c.if-datum_uses-5.false
-    (by_same (λ e. uses (datum e)) c.deref-else-datum_uses-4.ensures c.datum_uses-else-datum_uses-4.ensures)
+    (by_same f c.deref-else-datum_uses-4.ensures c.datum_uses-else-datum_uses-4.ensures)
     (or_then _ c.if-datum_uses-6.true
-    (by_same (λ e. uses (datum e)) c.deref-else-datum_uses-5.ensures c.datum_uses-else-datum_uses-5.ensures))))
+    (by_same f c.deref-else-datum_uses-5.ensures c.datum_uses-else-datum_uses-5.ensures)))
 
 pub returns-else-datum_uses-6 : goal.returns-else-datum_uses-6
 returns-else-datum_uses-6 t c =
-    let uses = in_datum no_name (has_root (roots_in c.args.aliases.now) c.args.y) in
-    at_node (λ e. uses (datum e)) c.in-Select.is
-    (or_else c.if-datum_uses-4.false
-    (by_same (λ e. uses (datum e)) c.deref-in-Select.ensures c.datum_uses-in-Select.ensures)
+    let f = uses c.args.aliases.now c.args.y in
+    rest_has f c.in-Select.is refl c.if-datum_uses-4.false c.deref-in-Select.ensures
+    c.datum_uses-in-Select.ensures
     (or_else c.if-datum_uses-5.false
-    (by_same (λ e. uses (datum e)) c.deref-else-datum_uses-4.ensures c.datum_uses-else-datum_uses-4.ensures)
+    (by_same f c.deref-else-datum_uses-4.ensures c.datum_uses-else-datum_uses-4.ensures)
     (or_else c.if-datum_uses-6.false
-    (by_same (λ e. uses (datum e)) c.deref-else-datum_uses-5.ensures c.datum_uses-else-datum_uses-5.ensures)
-    (by_same (λ e. uses (datum e)) c.deref-else-datum_uses-6.ensures c.datum_uses-else-datum_uses-6.ensures))))
+    (by_same f c.deref-else-datum_uses-5.ensures c.datum_uses-else-datum_uses-5.ensures)
+    (by_same f c.deref-else-datum_uses-6.ensures c.datum_uses-else-datum_uses-6.ensures)))

@@ -1,7 +1,8 @@
-use Rattle.std.proofs.Common.{◌≡◌, ℕ, List, ◌+◌, ◌||◌, ◌==◌, false, drop, ap, ap₂, sym, ◌∙◌, refl, arith}
+use Rattle.std.proofs.Common.{◌≡◌, ℕ, Bool, List, ◌+◌, ◌||◌, ◌==◌, false, take, drop, length, ap, ap₂}
+use Rattle.std.proofs.Common.{sym, ◌∙◌, refl, arith, Result, IsErr, IfOk, OnOk}
 use Rattle.std.proofs.lemmas.List.{take_all}
 use Rattle.std.proofs.lemmas.Result.{IfOk-from_err, on_ok_weaker}
-use Rattle.exo_tree.specs.Tree.{Statement, Program, block}
+use Rattle.exo_tree.specs.Tree.{Statement, block}
 use Rattle.exo_tree.specs.declared.block.Stmt.{Stmt}
 use Rattle.exo_tree.specs.declared.block.Stmt.TheVariants.{Assign, Reduce, Config, Pass, If, For, Alloc, View, Call}
 use Rattle.exo_tree.specs.declared.block.Block.TheDeep.{deep-Stmt}
@@ -11,20 +12,49 @@ use Rattle.exo_tree.specs.PlainStatement.{statement}
 use Rattle.exo_tree.specs.PlainUnit.{program}
 use Rattle.exo_meaning.specs.Scene.{updated}
 use Rattle.exo_meaning.specs.Run.{roots_after}
-use Rattle.exo_meaning.specs.Modes.{Mode, picked, reads_from}
+use Rattle.exo_meaning.specs.Modes.{picked, reads_from}
 use Rattle.exo_modes.specs.Aliases.{roots_in}
+use Rattle.exo_modes.specs.declared.aliases.Alias.{Alias}
 use Rattle.piece_modes.specs.PlainMode.{plain_mode}
 use Rattle.piece_modes.specs.Touching.{call_touches, step_touches, block_touches}
-use Rattle.piece_modes.proofs.Found.{at_node, by_same, or_then, or_else, ok_told, or_true, or_false, found_on}
-use Rattle.piece_modes.proofs.Found.{found_all}
-use Rattle.piece_modes.proofs.Found.{all_kept, same_kept, kept_on}
+use Rattle.piece_modes.specs.declared.touches.TouchQuestion.{TouchQuestion}
+use Rattle.piece_modes.proofs.Found.{at_node, by_same, by_roots, or_then, or_else, or_true}
+use Rattle.piece_modes.proofs.Found.{or_false, ok_told, found_on, found_all, same_kept, kept_on, leaves_names}
 use Rattle.piece_modes.proofs.touches.TouchQuestion.+walk.Goals as goal
 use Rattle.piece_modes.proofs.touches.TouchQuestion.+walk.Goals.{block_touches-then-found, block_touches-else-found}
 
--- a statement that touches nothing and binds nothing
-abbrev Skipped : Program → Mode → (ℕ → ℕ) → ℕ → Stmt → Type 0
-Skipped u m roots y s =
-    (false ≡ step_touches u m roots (statement s) y) × (roots ≡ roots_after (statement s) roots)
+-- an error says nothing of what follows `Ok`
+refused : {A E : Type 0} (r : Result A E) (P : A → Type 0) (Q R : Type 0) → IsErr r
+    → record { touches : IfOk r P; roots : OnOk r Q; kept : OnOk r R }
+refused r P Q R e = record {
+  touches = IfOk-from_err r P e;
+  roots = IfOk-from_err r _ e;
+  kept = IfOk-from_err r _ e;
+}
+
+module _ (question : TouchQuestion) (items : List Alias) where
+  abbrev touched : Statement → Bool
+  touched a =
+      step_touches (program question.unit.now) (plain_mode question.mode) (roots_in items) a
+      question.buffer
+
+  -- a statement that leaves the names as they are
+  leaves : {s a : Stmt} {new : List Alias} {here : Bool} → s ≡ a → new ≡ items
+      → roots_in items ≡ roots_after (statement a) (roots_in items) → here ≡ touched (statement a)
+      → record {
+        touches : here ≡ touched (statement s);
+        roots : roots_in new ≡ roots_after (statement s) (roots_in items);
+        kept : take (length items) new ≡ items;
+      }
+  leaves is same none e =
+      let w = leaves_names touched items is same none e in
+      record { touches = w.told; roots = w.roots; kept = w.kept }
+
+  -- one that touches nothing and binds nothing
+  abbrev Skipped : Stmt → Type 0
+  Skipped s =
+      (false ≡ touched (statement s))
+      × (roots_in items ≡ roots_after (statement s) (roots_in items))
 
 pub block_touches-loop-k-init : goal.block_touches-loop-k-init
 block_touches-loop-k-init t c =
@@ -89,165 +119,103 @@ statement_touches-block_touches-requires-in-For t c = (omega (arith, ap deep-Stm
 
 pub statement_touches-returns-in_err-in_first-in-If : goal.statement_touches-returns-in_err-in_first-in-If
 statement_touches-returns-in_err-in_first-in-If t c =
-    let e = c.from_residual in
-    record {
-      touches = IfOk-from_err e.result _ e.ensures.0;
-      roots = IfOk-from_err e.result _ e.ensures.0;
-      kept = IfOk-from_err e.result _ e.ensures.0;
-    }
+    let e = c.from_residual in refused e.result _ _ _ e.ensures.0
 
 pub statement_touches-returns-in_err-in_second-in-If : goal.statement_touches-returns-in_err-in_second-in-If
 statement_touches-returns-in_err-in_second-in-If t c =
-    let e = c.from_residual-in_err-in_second-in-If in
-    record {
-      touches = IfOk-from_err e.result _ e.ensures.0;
-      roots = IfOk-from_err e.result _ e.ensures.0;
-      kept = IfOk-from_err e.result _ e.ensures.0;
-    }
+    let e = c.from_residual-in_err-in_second-in-If in refused e.result _ _ _ e.ensures.0
 
 pub statement_touches-returns-in_err-set_root-in-Alloc : goal.statement_touches-returns-in_err-set_root-in-Alloc
 statement_touches-returns-in_err-set_root-in-Alloc t c =
-    let e = c.from_residual-in_err-set_root-in-Alloc in
-    record {
-      touches = IfOk-from_err e.result _ e.ensures.0;
-      roots = IfOk-from_err e.result _ e.ensures.0;
-      kept = IfOk-from_err e.result _ e.ensures.0;
-    }
+    let e = c.from_residual-in_err-set_root-in-Alloc in refused e.result _ _ _ e.ensures.0
 
 pub statement_touches-returns-in_err-set_root-in-View : goal.statement_touches-returns-in_err-set_root-in-View
 statement_touches-returns-in_err-set_root-in-View t c =
-    let e = c.from_residual-in_err-set_root-in-View in
-    record {
-      touches = IfOk-from_err e.result _ e.ensures.0;
-      roots = IfOk-from_err e.result _ e.ensures.0;
-      kept = IfOk-from_err e.result _ e.ensures.0;
-    }
+    let e = c.from_residual-in_err-set_root-in-View in refused e.result _ _ _ e.ensures.0
 
 pub statement_touches-returns-in-Assign : goal.statement_touches-returns-in-Assign
 statement_touches-returns-in-Assign t c =
-    let y = c.args.self.now.buffer in
-    let u = program c.args.self.now.unit.now in
-    let m = plain_mode c.args.self.now.mode in
-    let roots = roots_in c.args.aliases.now.items in
-    record {
-      touches = at_node (λ s. step_touches u m roots (statement s) y) c.in-Assign.is
-          (c.picked.ensures ∙ ap₂ (λ r x. picked m r (y == x) false)
-          (by_same (λ f. reads_from f (datum c.in-Assign.e) y) (ap roots_in c.deref.ensures.value)
-          c.reads_from-reads.ensures)
-          (by_same (λ f. f c.in-Assign.x.0) (ap roots_in c.deref-in-Assign.ensures.value) c.root.ensures));
-      roots = at_node (λ s. roots_after (statement s) roots) c.in-Assign.is refl;
-      kept = all_kept c.args.aliases.now.items;
-    }
+    leaves c.args.self.now c.args.aliases.now.items c.in-Assign.is refl refl
+    (c.picked.ensures
+    ∙ ap₂ (λ r x. picked (plain_mode c.args.self.now.mode) r (c.args.self.now.buffer == x) false)
+    (by_roots (λ f. reads_from f (datum c.in-Assign.e) c.args.self.now.buffer)
+    c.deref.ensures.value c.reads_from-reads.ensures)
+    (by_same (λ f. f c.in-Assign.x.0) (ap roots_in c.deref-in-Assign.ensures.value) c.root.ensures))
 
 pub statement_touches-returns-in-Reduce : goal.statement_touches-returns-in-Reduce
 statement_touches-returns-in-Reduce t c =
-    let y = c.args.self.now.buffer in
-    let u = program c.args.self.now.unit.now in
-    let m = plain_mode c.args.self.now.mode in
-    let roots = roots_in c.args.aliases.now.items in
-    record {
-      touches = at_node (λ s. step_touches u m roots (statement s) y) c.in-Reduce.is
-          (c.picked-in-Reduce.ensures ∙ ap₂ (λ r x. picked m r false (y == x))
-          (by_same (λ f. reads_from f (datum c.in-Reduce.e) y) (ap roots_in c.deref-in-Reduce.ensures.value)
-          c.reads_from-reads-in-Reduce.ensures)
-          (by_same (λ f. f c.in-Reduce.x.0) (ap roots_in c.deref-in-Reduce-2.ensures.value) c.root-in-Reduce.ensures));
-      roots = at_node (λ s. roots_after (statement s) roots) c.in-Reduce.is refl;
-      kept = all_kept c.args.aliases.now.items;
-    }
+    leaves c.args.self.now c.args.aliases.now.items c.in-Reduce.is refl refl
+    (c.picked-in-Reduce.ensures
+    ∙ ap₂ (λ r x. picked (plain_mode c.args.self.now.mode) r false (c.args.self.now.buffer == x))
+    (by_roots (λ f. reads_from f (datum c.in-Reduce.e) c.args.self.now.buffer)
+    c.deref-in-Reduce.ensures.value c.reads_from-reads-in-Reduce.ensures)
+    (by_same (λ f. f c.in-Reduce.x.0) (ap roots_in c.deref-in-Reduce-2.ensures.value)
+    c.root-in-Reduce.ensures))
 
 pub statement_touches-returns-then-in_first : goal.statement_touches-returns-then-in_first
 statement_touches-returns-then-in_first t c =
-    let y = c.args.self.now.buffer in
-    let u = program c.args.self.now.unit.now in
-    let m = plain_mode c.args.self.now.mode in
-    let roots = roots_in c.args.aliases.now.items in
-    record {
-      touches = at_node (λ s. step_touches u m roots (statement s) y) c.in-If.is
-          (or_then _ c.if-in_first.true c.in_ok-in_first-in-If.ensures.touches);
-      roots = at_node (λ s. roots_after (statement s) roots) c.in-If.is
-          (ap roots_in (c.in_ok-in_second-in-If.ensures.kept ∙ c.in_ok-in_first-in-If.ensures.kept));
-      kept = same_kept _ _ (c.in_ok-in_second-in-If.ensures.kept ∙ c.in_ok-in_first-in-If.ensures.kept);
-    }
+    leaves c.args.self.now c.args.aliases.now.items c.in-If.is
+    (c.in_ok-in_second-in-If.ensures.kept ∙ c.in_ok-in_first-in-If.ensures.kept) refl
+    (or_then _ c.if-in_first.true c.in_ok-in_first-in-If.ensures.touches)
 
 pub statement_touches-returns-else-in_first : goal.statement_touches-returns-else-in_first
 statement_touches-returns-else-in_first t c =
-    let y = c.args.self.now.buffer in
-    let u = program c.args.self.now.unit.now in
-    let m = plain_mode c.args.self.now.mode in
-    let roots = roots_in c.args.aliases.now.items in
-    record {
-      touches = at_node (λ s. step_touches u m roots (statement s) y) c.in-If.is
-          (or_else c.if-in_first.false c.in_ok-in_first-in-If.ensures.touches
-          (by_same (λ f. block_touches u m f (block c.in-If.b) y) (ap roots_in c.in_ok-in_first-in-If.ensures.kept)
-          c.in_ok-in_second-in-If.ensures.touches));
-      roots = at_node (λ s. roots_after (statement s) roots) c.in-If.is
-          (ap roots_in (c.in_ok-in_second-in-If.ensures.kept ∙ c.in_ok-in_first-in-If.ensures.kept));
-      kept = same_kept _ _ (c.in_ok-in_second-in-If.ensures.kept ∙ c.in_ok-in_first-in-If.ensures.kept);
-    }
+    leaves c.args.self.now c.args.aliases.now.items c.in-If.is
+    (c.in_ok-in_second-in-If.ensures.kept ∙ c.in_ok-in_first-in-If.ensures.kept) refl
+    (or_else c.if-in_first.false c.in_ok-in_first-in-If.ensures.touches
+    (by_roots (λ f. block_touches (program c.args.self.now.unit.now)
+    (plain_mode c.args.self.now.mode) f (block c.in-If.b) c.args.self.now.buffer)
+    c.in_ok-in_first-in-If.ensures.kept c.in_ok-in_second-in-If.ensures.touches))
 
 pub statement_touches-returns-in-For : goal.statement_touches-returns-in-For
 statement_touches-returns-in-For t c =
-    let y = c.args.self.now.buffer in
-    let u = program c.args.self.now.unit.now in
-    let m = plain_mode c.args.self.now.mode in
+    let touched_here = touched c.args.self.now c.args.aliases.now.items in
     let roots = roots_in c.args.aliases.now.items in
     let r = c.block_touches-in-For.result in
     let inner = c.block_touches-in-For.ensures in
     let is = sym c.in-For.is in
     record {
-      touches = ok_told r _ _ (ap (λ s. step_touches u m roots (statement s) y) is) inner.touches;
-      roots = on_ok_weaker r (λ e. ap roots_in e ∙ ap (λ s. roots_after (statement s) roots) is) inner.kept;
+      touches = ok_told r _ _ (ap (λ s. touched_here (statement s)) is) inner.touches;
+      roots = on_ok_weaker r (λ e. ap roots_in e ∙ ap (λ s. roots_after (statement s) roots) is)
+          inner.kept;
       kept = on_ok_weaker r (λ e. same_kept _ _ e) inner.kept;
     }
 
 pub statement_touches-returns-in_ok-set_root-in-Alloc : goal.statement_touches-returns-in_ok-set_root-in-Alloc
 statement_touches-returns-in_ok-set_root-in-Alloc t c =
-    let y = c.args.self.now.buffer in
-    let u = program c.args.self.now.unit.now in
-    let m = plain_mode c.args.self.now.mode in
+    let touched_here = touched c.args.self.now c.args.aliases.now.items in
     let roots = roots_in c.args.aliases.now.items in
     record {
-      touches = at_node (λ s. step_touches u m roots (statement s) y) c.in-Alloc.is c.picked-in-Alloc.ensures;
-      roots = at_node (λ s. roots_after (statement s) roots) c.in-Alloc.is c.in_ok-set_root-in-Alloc.ensures.set;
+      touches = at_node (λ s. touched_here (statement s)) c.in-Alloc.is c.picked-in-Alloc.ensures;
+      roots = at_node (λ s. roots_after (statement s) roots) c.in-Alloc.is
+          c.in_ok-set_root-in-Alloc.ensures.set;
       kept = c.in_ok-set_root-in-Alloc.ensures.kept;
     }
 
 pub statement_touches-returns-in_ok-set_root-in-View : goal.statement_touches-returns-in_ok-set_root-in-View
 statement_touches-returns-in_ok-set_root-in-View t c =
-    let y = c.args.self.now.buffer in
-    let u = program c.args.self.now.unit.now in
-    let m = plain_mode c.args.self.now.mode in
+    let touched_here = touched c.args.self.now c.args.aliases.now.items in
     let roots = roots_in c.args.aliases.now.items in
     record {
-      touches = at_node (λ s. step_touches u m roots (statement s) y) c.in-View.is refl;
+      touches = at_node (λ s. touched_here (statement s)) c.in-View.is refl;
       roots = at_node (λ s. roots_after (statement s) roots) c.in-View.is
           (c.in_ok-set_root-in-View.ensures.set ∙ ap (updated roots c.in-View.w.id.0)
-          (by_same (λ f. f c.in-View.x.0) (ap roots_in c.deref-in-View.ensures.value) c.root-buffer.ensures));
+          (by_same (λ f. f c.in-View.x.0) (ap roots_in c.deref-in-View.ensures.value)
+          c.root-buffer.ensures));
       kept = c.in_ok-set_root-in-View.ensures.kept;
     }
 
 pub statement_touches-returns-in-Call : goal.statement_touches-returns-in-Call
 statement_touches-returns-in-Call t c =
-    let y = c.args.self.now.buffer in
-    let u = program c.args.self.now.unit.now in
-    let m = plain_mode c.args.self.now.mode in
-    let roots = roots_in c.args.aliases.now.items in
-    record {
-      touches = at_node (λ s. step_touches u m roots (statement s) y) c.in-Call.is
-          (by_same (λ f. call_touches u m f c.in-Call.k.0 c.in-Call.args y)
-          (ap roots_in c.deref-in-Call.ensures.value) c.call_touches.ensures);
-      roots = at_node (λ s. roots_after (statement s) roots) c.in-Call.is refl;
-      kept = all_kept c.args.aliases.now.items;
-    }
+    leaves c.args.self.now c.args.aliases.now.items c.in-Call.is refl refl
+    (by_roots (λ f. call_touches (program c.args.self.now.unit.now)
+    (plain_mode c.args.self.now.mode) f c.in-Call.k.0 c.in-Call.args c.args.self.now.buffer)
+    c.deref-in-Call.ensures.value c.call_touches.ensures)
 
 pub statement_touches-returns-in_default : goal.statement_touches-returns-in_default
 statement_touches-returns-in_default t c =
-    let y = c.args.self.now.buffer in
-    let u = program c.args.self.now.unit.now in
-    let m = plain_mode c.args.self.now.mode in
-    let roots = roots_in c.args.aliases.now.items in
     let o = c.in_default in
-    let p = (elim c.args.s.now as (λ (s : Stmt). c.args.s.now ≡ s → Skipped u m roots y s) [
+    let p = (elim c.args.s.now as (λ (s : Stmt). c.args.s.now ≡ s → Skipped c.args.self.now c.args.aliases.now.items s) [
       | Assign x is d ↦ λ e. absurd (o.not-Assign x is d e)
       | Reduce x is d ↦ λ e. absurd (o.not-Reduce x is d e)
       | If b p q ↦ λ e. absurd (o.not-If b p q e)
@@ -258,4 +226,4 @@ statement_touches-returns-in_default t c =
       | Config f a ↦ λ e. (refl, refl)
       | Pass ↦ λ e. (refl, refl)
     ]) refl in
-    record { touches = p.0; roots = p.1; kept = all_kept c.args.aliases.now.items }
+    leaves c.args.self.now c.args.aliases.now.items refl refl p.1 p.0
