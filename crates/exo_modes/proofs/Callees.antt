@@ -75,6 +75,13 @@ modes_of_read f [] k x e h = absurd (omega (arith, h))
 modes_of_read f (y ∷ xs) zero x e h = ap f (sym e)
 modes_of_read f (y ∷ xs) (suc k) x e h = modes_of_read f xs k x e (omega (arith, h))
 
+-- where there is no row
+pub modes_of_none : {X : Type 0} (f : X → Modes) (xs : List X) (k : ℕ) → length xs ≤ k
+    → modes_at (map f xs) k ≡ no_modes
+modes_of_none f [] k h = refl
+modes_of_none f (y ∷ xs) zero h = absurd (omega (arith, h))
+modes_of_none f (y ∷ xs) (suc k) h = modes_of_none f xs k (omega (arith, h))
+
 taken_more : {X Y : Type 0} (f : X → Y) (xs : List X) (k : ℕ) (x : X) → x ≡ get_or xs k x → k < length xs → take (suc k) (map f xs) ≡ take k (map f xs) ++ f x ∷ []
 taken_more f [] k x e h = absurd (omega (arith, h))
 taken_more f (y ∷ xs) zero x e h = ap (λ z. f z ∷ []) (sym e)

@@ -5,5 +5,6 @@ pub mod Arguments
 pub mod Callees
 pub mod Procedures
 pub mod Writes
+pub mod Weights
 pub mod Endings
 pub mod OfCalls

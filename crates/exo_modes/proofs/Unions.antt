@@ -1,9 +1,9 @@
 -- What several marks say together.
-use Rattle.std.proofs.Common.{◌≡◌, ℕ, ◌||◌, Bool, true, false, refl, ap, sym, ◌∙◌}
+use Rattle.std.proofs.Common.{◌≡◌, ℕ, ◌==◌, ◌||◌, ◌&&◌, Bool, true, false, List, refl, ap, sym, ◌∙◌}
 use Rattle.std.proofs.Math.Bool.{or_assoc}
-use Rattle.exo_tree.specs.Tree.{Datum, Plus, Select}
+use Rattle.exo_tree.specs.Tree.{Control, Datum, Read, Plus, Select}
 use Rattle.exo_meaning.specs.Modes.{Mode, Reading, Writing, Reducing, Modes, picked, no_modes, reads_from}
-use Rattle.exo_modes.specs.Marks.{together, reads}
+use Rattle.exo_modes.specs.Marks.{together, used, reads}
 
 pub same_modes : (f g : Modes) → ((m : Mode) (y : ℕ) → f m y ≡ g m y) → f ≡ g
 same_modes f g h = λ i m y. h m y i
@@ -24,6 +24,16 @@ reads_at : (m : Mode) (r s : Bool) → (picked m r false false || picked m s fal
 reads_at Reading r s = refl
 reads_at Writing r s = refl
 reads_at Reducing r s = refl
+
+name_at : (m : Mode) (t : Bool) → (picked m true false false && t) ≡ picked m t false false
+name_at Reading t = refl
+name_at Writing t = refl
+name_at Reducing t = refl
+
+-- what a name reads
+pub read_name : (root : ℕ → ℕ) (x : ℕ) (is : List Control)
+    → used (λ m. picked m true false false) (root x) ≡ reads root (Read x is)
+read_name root x is = same_modes _ _ (λ m y. name_at m (y == root x))
 
 reads_two : (root : ℕ → ℕ) (a b e : Datum) → ((y : ℕ) → reads_from root e y ≡ (reads_from root a y || reads_from root b y)) → together (reads root a) (reads root b) ≡ reads root e
 reads_two root a b e h = same_modes _ _ (λ m y. reads_at m (reads_from root a y) (reads_from root b y) ∙ ap (λ t. picked m t false false) (sym (h y)))

@@ -1,7 +1,8 @@
 -- What a walk has marked, and what is left.
 use Rattle.std.proofs.Common.{◌≡◌, ℕ, zero, suc, arith, ◌||◌, ◌&&◌, ◌==◌, ◌≤◌, Bool, true, false, List, [], ◌∷◌, length, drop, take, refl, ap, sym, ◌∙◌}
+use Rattle.std.proofs.Common.{Result, Ok, Err, OnOk}
 use Rattle.std.proofs.Math.Bool.{or_assoc}
-use Rattle.std.proofs.lemmas.List.{drop_all}
+use Rattle.std.proofs.lemmas.List.{drop_all, take_all}
 use Rattle.exo_tree.specs.Tree.{Binder, Cell, Control, Condition, Datum, Statement, Assign, Reduce, If, Alloc, Block, block, Procedure}
 use Rattle.exo_meaning.specs.Run.{roots_after}
 use Rattle.exo_meaning.specs.Modes.{Mode, Reading, Writing, Reducing, Modes, picked, reads_from}
@@ -70,3 +71,18 @@ kept_on known xs ys zs e h k = (
   sym (take_shorter known (length xs) ys h) ∙ ap (take known) k ∙ e,
   omega (arith, h, ap length k, length_taken (length xs) ys),
 )
+
+-- names that are as they were are kept
+pub kept_same : {X : Type 0} (xs : List X) → take (length xs) xs ≡ xs
+kept_same xs = take_all (length xs) xs (omega arith)
+
+-- what holds anyhow holds after a call
+pub anyhow : {T E P : Type 0} (r : Result T E) → P → OnOk r P
+anyhow (Ok x) p = p
+anyhow (Err e) p = tt
+
+-- what is made of what a call left
+pub made_of : {T E V W : Type 0} (r : Result T E) (f : V → W) (x y : V) (z : W)
+    → OnOk r (x ≡ y) → f y ≡ z → OnOk r (f x ≡ z)
+made_of (Ok t) f x y z h e = ap f h ∙ e
+made_of (Err d) f x y z h e = tt

@@ -31,6 +31,14 @@ marked_then test more old mid new h j = record {
 pub block_marked : (ss rest : List Statement) (k : ℕ) (a : Statement) (set mid new : List Bool) → drop k ss ≡ a ∷ rest → Marked (λ j. is_call_of j a) set mid → Marked (λ j. calls j (block rest)) mid new → Marked (λ j. calls j (block (drop k ss))) set new
 block_marked ss rest k a set mid new d h j = marked_same (λ i. is_call_of i a || calls i (block rest)) (λ i. calls i (block (drop k ss))) set new (λ i l. ap (λ (z : List Statement). calls i (block z)) (sym d)) (marked_then (λ i. is_call_of i a) (λ i. calls i (block rest)) set mid new h j)
 
+-- no statement is left
+pub block_ended : (ss : List Statement) (k : ℕ) (set : List Bool) → length ss ≤ k
+    → Marked (λ j. calls j (block (drop k ss))) set set
+block_ended ss k set h =
+    marked_same (λ i. false) (λ i. calls i (block (drop k ss))) set set
+    (λ i l. ap (λ (z : List Statement). calls i (block z)) (sym (drop_all k ss h)))
+    (marked_none set)
+
 -- where a condition does not hold
 pub marked_off : (a b : Bool) (test : ℕ → Bool) (s : List Bool) → (a && b) ≡ false → Marked (λ k. (a && b) && test k) s s
 marked_off a b test s e = marked_same (λ k. false) (λ k. (a && b) && test k) s s (λ k l. ap (λ t. t && test k) (sym e)) (marked_none s)

@@ -1,5 +1,5 @@
-use Rattle.std.proofs.Common.{◌≡◌, [], ◌∷◌, ◌++◌, length, take, ap, sym, ◌∙◌, arith}
-use Rattle.std.proofs.lemmas.List.{map-append, length-map, length_push}
+use Rattle.std.proofs.Common.{◌≡◌, ◌≤◌, [], ◌∷◌, ◌++◌, length, take, ap, sym, ◌∙◌, arith}
+use Rattle.std.proofs.lemmas.List.{map-append, length-map, length_push, take_all}
 use Rattle.exo_tree.specs.Tree.{block}
 use Rattle.exo_tree.specs.declared.procedure.Proc.{Proc}
 use Rattle.exo_tree.specs.PlainUnit.{program}
@@ -43,3 +43,13 @@ loop-k-preserved c =
       omega (arith, ap length c.in_ok-push.ensures.items, length_push old c.in_ok-row.row, c.loop-k.invariant.1),
       omega (arith, c.loop-k-test.true, ap length c.as_slice-procs.ensures, length-map c.as_slice-procs.result.now procedure),
     )
+
+pub returns : goal.returns
+returns c =
+    let ps = c.args.unit.now.procs in
+    let items = c.as_slice-procs.result.now in
+    let same = ap length c.as_slice-procs.ensures in
+    let done : length ps ≤ c.loop-k.k = omega
+    (arith, c.loop-k-test.false, same, length-map items procedure) in
+    c.loop-k.invariant.0
+    ∙ ap (all_modes (kinds_of c.args.unit.now.fields) [] []) (take_all c.loop-k.k ps done)
