@@ -10,3 +10,5 @@ pub mod Starts
 pub mod Runs
 pub mod Covered
 pub mod Same
+pub mod Parts
+pub mod Rest
