@@ -1,7 +1,7 @@
 //! Expressions of C print as C.
 ghost use Rattle.std.specs.Prelude.{◌≡◌, Some, map, string_bytes};
 ghost use Rattle.exo_tree.specs.PlainBinder.{cell_type};
-ghost use Rattle.c_tree.specs.CText.{type_word, struct_word, element_word};
+ghost use Rattle.c_tree.specs.CText.{type_word, struct_word, element_word, between};
 ghost use Rattle.c_tree.specs.CText.{number64_text, test_text, cell_text, number32_text};
 ghost use Rattle.c_tree.specs.CText.{actual_text, piece_text, allocation_text, bound_text};
 ghost use Rattle.c_tree.specs.CText.{formal_text, head_text, each, listed};
@@ -14,7 +14,7 @@ use crate::tree::{
     CWindow,
 };
 use exo_tree::Cell;
-use std::fmt;
+use std::fmt::{self, Display};
 
 /// The C type of cells.
 pub(crate) fn type_word(cell: Cell) -> &'static str
@@ -46,6 +46,23 @@ impl fmt::Display for CNumber {
     }
 }
 
+/// Two numbers with a sign between them, in parentheses.
+#[derive(Clone, Copy)]
+struct Compared<'a> {
+    left: &'a CNumber,
+    sign: &'a str,
+    right: &'a CNumber,
+}
+
+impl fmt::Display for Compared<'_> {
+    ghost output = { λ c. Some (between (number64_text (plain_number c.left.now)) c.sign.now
+        (number64_text (plain_number c.right.now))) };
+
+    fn fmt<W: fmt::Write>(&self, f: &mut fmt::Formatter<W>) -> fmt::Result {
+        write!(f, "({} {} {})", self.left, self.sign, self.right)
+    }
+}
+
 impl fmt::Display for CTest {
     ghost output = { λ t. Some (test_text (plain_test t)) };
 
@@ -54,11 +71,46 @@ impl fmt::Display for CTest {
             CTest::Always => f.write_str("1"),
             CTest::Never => f.write_str("0"),
             CTest::IsSet(x) => write!(f, "({x} != 0LL)"),
-            CTest::Less(a, b) => write!(f, "({a} < {b})"),
-            CTest::LessEqual(a, b) => write!(f, "({a} <= {b})"),
-            CTest::More(a, b) => write!(f, "({a} > {b})"),
-            CTest::MoreEqual(a, b) => write!(f, "({a} >= {b})"),
-            CTest::Equal(a, b) => write!(f, "({a} == {b})"),
+            CTest::Less(left, right) => {
+                let compared = Compared {
+                    left,
+                    sign: "<",
+                    right,
+                };
+                compared.fmt(f)
+            }
+            CTest::LessEqual(left, right) => {
+                let compared = Compared {
+                    left,
+                    sign: "<=",
+                    right,
+                };
+                compared.fmt(f)
+            }
+            CTest::More(left, right) => {
+                let compared = Compared {
+                    left,
+                    sign: ">",
+                    right,
+                };
+                compared.fmt(f)
+            }
+            CTest::MoreEqual(left, right) => {
+                let compared = Compared {
+                    left,
+                    sign: ">=",
+                    right,
+                };
+                compared.fmt(f)
+            }
+            CTest::Equal(left, right) => {
+                let compared = Compared {
+                    left,
+                    sign: "==",
+                    right,
+                };
+                compared.fmt(f)
+            }
             CTest::Both(a, b) => write!(f, "({a} && {b})"),
             CTest::Either(a, b) => write!(f, "({a} || {b})"),
         }
@@ -269,8 +321,7 @@ impl fmt::Display for CStatement {
             CStatement::Empty => f.write_str(";"),
             CStatement::Branch(t, _, _) => write!(f, "if ({t}) {{"),
             CStatement::Loop(x, lo, hi, _) => {
-                write!(f, "for (int64_t {x} = {lo}; ")?;
-                write!(f, "{x} < {hi}; {x}++) {{")
+                write!(f, "for (int64_t {x} = {lo}; {x} < {hi}; {x}++) {{")
             }
             CStatement::Array(t, x, n) => write!(f, "{t} {x}[{n}];"),
             CStatement::Malloc(element, name, count) => {
