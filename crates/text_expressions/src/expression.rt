@@ -4,7 +4,7 @@ ghost use Rattle.std.specs.Prelude.{◌≡◌, ◌≢◌, ◌≤◌, ◌<◌, �
 ghost use Rattle.text_phrases.specs.Phrase.{first, Taken, Refused};
 ghost use Rattle.text_phrases.specs.Answers.{Reads};
 ghost use Rattle.text_expressions.specs.Front.Values.{IsShortName};
-ghost use Rattle.text_expressions.specs.Expression.{Tree, operand, relu, select, negative, parens};
+ghost use Rattle.text_expressions.specs.Expression.{Tree, operand, select, depth, nodes};
 ghost use Rattle.text_expressions.specs.Expression.{access, binary, trees, HasPlace, ended_by};
 ghost use Rattle.text_expressions.specs.Expression.{FollowsOperand, level_of, joins, joins_by_sign};
 ghost use Rattle.text_expressions.specs.Expression.{joins_by_word, sign, NoSign, under, control};
@@ -149,6 +149,29 @@ impl Room {
     }
 }
 
+/// An expression that has been read, so deep and with so many nodes.
+fn finished(
+    alloc: Global,
+    tree: SourceExpr,
+    levels: u32,
+    count: u32,
+    rest: &[Token],
+) -> Result<(Measured, &[Token]), Refusal>
+    requires deep { levels ≡ depth (tree_of tree) }
+    requires long { count ≡ nodes (tree_of tree) }
+    ensures measured { IfOk result (λ x. IsMeasured x.0) }
+    ensures reads { (room : Room) (tokens : List Token)
+        → Taken (operand 5 room) tokens (tree_of tree) rest.now
+        → Reads (operand 5 room) tokens (λ x. tree_of x.0.tree.value) (λ x. x.1.now) result }
+{
+    let measured = Measured {
+        tree: Box::new(alloc, tree)?,
+        depth: levels,
+        nodes: count,
+    };
+    Ok((measured, rest))
+}
+
 /// An expression that is one token or a few, which are read.
 fn leaf(alloc: Global, tree: SourceExpr, rest: &[Token]) -> Result<(Measured, &[Token]), Refusal>
     requires { IsLeaf (tree_of tree) }
@@ -157,12 +180,7 @@ fn leaf(alloc: Global, tree: SourceExpr, rest: &[Token]) -> Result<(Measured, &[
         → Taken (operand 5 room) tokens (tree_of tree) rest.now
         → Reads (operand 5 room) tokens (λ x. tree_of x.0.tree.value) (λ x. x.1.now) result }
 {
-    let measured = Measured {
-        tree: Box::new(alloc, tree)?,
-        depth: 1,
-        nodes: 1,
-    };
-    Ok((measured, rest))
+    finished(alloc, tree, 1, 1, rest)
 }
 
 /// The room for the right side of an operator with which so many tokens are left. Else the limit that it passes.
@@ -203,72 +221,28 @@ fn joined(
     Ok(Measured { tree, depth, nodes })
 }
 
-/// An expression behind a minus.
-fn negated(alloc: Global, inner: Measured) -> Result<Measured, AllocError>
-    requires measured { IsMeasured inner }
-    requires shallow { inner.depth < 4294967295 }
-    requires few { inner.nodes < 4294967295 }
-    ensures { IfOk result (λ m. (tree_of m.tree.value ≡ negative (tree_of inner.tree.value)) × IsMeasured m) }
-{
-    let tree = Box::new(alloc, SourceExpr::Negative(inner.tree))?;
-    Ok(Measured {
-        tree,
-        depth: inner.depth + 1,
-        nodes: inner.nodes + 1,
-    })
-}
-
-/// What is not below 0 of an expression.
-fn rectified(alloc: Global, inner: Measured) -> Result<Measured, AllocError>
-    requires measured { IsMeasured inner }
-    requires shallow { inner.depth < 4294967295 }
-    requires few { inner.nodes < 4294967295 }
-    ensures { IfOk result (λ m. (tree_of m.tree.value ≡ relu (tree_of inner.tree.value)) × IsMeasured m) }
-{
-    let tree = Box::new(alloc, SourceExpr::Relu(inner.tree))?;
-    Ok(Measured {
-        tree,
-        depth: inner.depth + 1,
-        nodes: inner.nodes + 1,
-    })
-}
-
-/// A choice among expressions.
+/// A choice among expressions, which is read.
 fn selected(
     alloc: Global,
     a: Measured,
     b: Measured,
     c: Measured,
     d: Measured,
-) -> Result<Measured, AllocError>
+    rest: &[Token],
+) -> Result<(Measured, &[Token]), Refusal>
     requires measured { IsMeasured a × IsMeasured b × IsMeasured c × IsMeasured d }
     requires shallow { (a.depth < 4294967295) × (b.depth < 4294967295) × (c.depth < 4294967295) × (d.depth < 4294967295) }
     requires few { a.nodes + b.nodes + c.nodes + d.nodes < 4294967295 }
-    ensures { IfOk result
-        (λ m. (tree_of m.tree.value
-        ≡ select (tree_of a.tree.value) (tree_of b.tree.value) (tree_of c.tree.value)
-        (tree_of d.tree.value))
-        × IsMeasured m) }
+    ensures measured { IfOk result (λ x. IsMeasured x.0) }
+    ensures reads { (room : Room) (tokens : List Token)
+        → Taken (operand 5 room) tokens (select (tree_of a.tree.value) (tree_of b.tree.value)
+        (tree_of c.tree.value) (tree_of d.tree.value)) rest.now
+        → Reads (operand 5 room) tokens (λ x. tree_of x.0.tree.value) (λ x. x.1.now) result }
 {
     let depth = a.depth.max(b.depth).max(c.depth.max(d.depth)) + 1;
     let nodes = a.nodes + b.nodes + c.nodes + d.nodes + 1;
     let choice = SourceExpr::Select(a.tree, b.tree, c.tree, d.tree);
-    let tree = Box::new(alloc, choice)?;
-    Ok(Measured { tree, depth, nodes })
-}
-
-/// An expression in parentheses.
-fn enclosed(alloc: Global, inner: Measured) -> Result<Measured, AllocError>
-    requires measured { IsMeasured inner }
-    requires shallow { inner.depth < 4294967295 }
-    ensures { IfOk result (λ m. (tree_of m.tree.value ≡ parens (tree_of inner.tree.value)) × IsMeasured m) }
-{
-    let tree = Box::new(alloc, SourceExpr::Parens(inner.tree))?;
-    Ok(Measured {
-        tree,
-        depth: inner.depth + 1,
-        nodes: inner.nodes,
-    })
+    finished(alloc, choice, depth, nodes, rest)
 }
 
 /// Indices with the depth of the deepest one.
@@ -505,8 +479,8 @@ fn read_relu<'a>(
     let inside = room.below(1, 1, tokens.len())?;
     let rest = expect_all(rest, &[Fixed::Sign(Sign::Open)])?;
     let (inner, rest) = read_ended(alloc, rest, Sign::Close, inside)?;
-    let relu = rectified(alloc, inner)?;
-    Ok((relu, rest))
+    let relu = SourceExpr::Relu(inner.tree);
+    finished(alloc, relu, inner.depth + 1, inner.nodes + 1, rest)
 }
 
 /// What comes behind `select`. Each argument leaves a node for each one behind it.
@@ -531,8 +505,7 @@ fn read_select<'a>(
     let (c, rest) = read_ended(alloc, rest, Sign::Comma, behind_b)?;
     let behind_c = room.under(a.nodes + b.nodes + c.nodes + 1);
     let (d, rest) = read_ended(alloc, rest, Sign::Close, behind_c)?;
-    let select = selected(alloc, a, b, c, d)?;
-    Ok((select, rest))
+    selected(alloc, a, b, c, d, rest)
 }
 
 /// An operand that begins with a sign.
@@ -571,8 +544,8 @@ fn read_negative<'a>(
 {
     let inside = room.below(1, 1, tokens.len())?;
     let (inner, rest) = read_unary(alloc, rest, inside)?;
-    let negative = negated(alloc, inner)?;
-    Ok((negative, rest))
+    let negative = SourceExpr::Negative(inner.tree);
+    finished(alloc, negative, inner.depth + 1, inner.nodes + 1, rest)
 }
 
 /// What comes behind an opening parenthesis.
@@ -590,8 +563,8 @@ fn read_parens<'a>(
 {
     let inside = room.below(1, 0, tokens.len())?;
     let (inner, rest) = read_ended(alloc, rest, Sign::Close, inside)?;
-    let parens = enclosed(alloc, inner)?;
-    Ok((parens, rest))
+    let parens = SourceExpr::Parens(inner.tree);
+    finished(alloc, parens, inner.depth + 1, inner.nodes, rest)
 }
 
 /// An operand that begins with a name.
@@ -675,10 +648,10 @@ pub fn read_indices(
         depth,
         nodes: CONTROL_NODES,
     };
-    let mut items = Vec::new(alloc);
     let (first, behind_first) = read_operand(alloc, tokens, 0, room)?;
     let mut deepest = first.depth;
     let mut rest = behind_first;
+    let mut items = Vec::new(alloc);
     items.push(Box::into_inner(first.tree))?;
     'more: while let Some(after) = behind(rest, Fixed::Sign(Sign::Comma)) {
         if items.len() >= DIMENSIONS {

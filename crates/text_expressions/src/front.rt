@@ -6,7 +6,7 @@ ghost use Rattle.text_phrases.specs.Sequence.{exactly};
 ghost use Rattle.text_phrases.specs.Answers.{Reads};
 ghost use Rattle.text_expressions.specs.Front.Values.{IsShortName, name, literal};
 ghost use Rattle.text_expressions.specs.Front.Fixed.{token_of};
-ghost use Rattle.text_expressions.specs.Front.Starts.{StartsWithName, RefusesItem};
+ghost use Rattle.text_expressions.specs.Front.Starts.{RefusesItem};
 ghost use Rattle.text_lexer.specs.declared.token.Token.{Token};
 ghost use Rattle.text_lexer.specs.declared.token.Literal.{Literal};
 
@@ -81,24 +81,13 @@ pub fn stands_first(tokens: &[Token], fixed: Fixed) -> bool
     behind(tokens, fixed).is_some()
 }
 
-/// Whether a name of any length stands first.
-fn name_stands_first(tokens: &[Token]) -> bool
-    ensures { IsTrue result ↔ StartsWithName tokens.now }
-{
-    match next(tokens) {
-        Some((Token::Name(_), _)) => true,
-        _ => false,
-    }
-}
-
 /// Why no item that begins with a name stands there, where there are as many as may be.
 pub fn refuse_item(tokens: &[Token]) -> Refusal
     ensures { RefusesItem tokens.now result }
 {
-    if name_stands_first(tokens) {
-        Refusal::TooLong(tokens.len())
-    } else {
-        Refusal::Syntax(tokens.len())
+    match tokens {
+        [Token::Name(_), ..] => Refusal::TooLong(tokens.len()),
+        _ => Refusal::Syntax(tokens.len()),
     }
 }
 

@@ -1,7 +1,10 @@
 -- Tokens up to a fault.
 use Rattle.std.proofs.Common.{◌≡◌, ℕ, zero, suc, ◌+◌, List, [], ◌∷◌, ◌++◌, replicate, Bool, true, false, cond, length, refl, sym, ap, ◌∙◌, append_assoc, append-nil, map}
 use Rattle.std.specs.Prelude.{Option, Some, None, MatchOption}
+use Rattle.std.proofs.Common.{Result}
+use Rattle.std.specs.Result.{OnOk}
 use Rattle.std.proofs.lemmas.List.{map-append}
+use Rattle.std.proofs.lemmas.Result.{IfOk-weaker}
 use denote.Ref.{Bor}
 use Rattle.text_lexer.specs.Layout.{at, line_tokens, one_line, line_lexed, put, place_of, token_of, is_fault, is_sound, up_to_fault, text_end, layout, laid, lines}
 use Rattle.text_lexer.proofs.FirstLine.{lines-some}
@@ -114,3 +117,13 @@ kept_all target given more ts us ps qs kept tokens places goes =
     let last : Kept target us qs [] = kept_more target given more [] ts us ps qs kept tokens places (λ placed whole. sym (goes placed whole) ∙ sym (append-nil (placed ++ given))) in
     let whole : last.placed ≡ target = sym (append-nil last.placed) ∙ sym last.whole in
     (last.tokens ∙ ap (map token_of) whole, last.places ∙ ap (map place_of) whole)
+
+-- all are given by a call that may fail
+pub kept_ok : {A E : Type 0} (r : Result A E) (target given more : List Placed) (ts us : List Token) (ps qs : List Place) →
+    Kept target ts ps more → OnOk r ((us ≡ ts ++ map token_of given) × (qs ≡ ps ++ map place_of given)) →
+    ((placed : List Placed) → target ≡ placed ++ more → placed ++ given ≡ target) →
+    OnOk r ((us ≡ map token_of target) × (qs ≡ map place_of target))
+kept_ok r target given more ts us ps qs kept put goes =
+    IfOk-weaker r (λ x. (us ≡ ts ++ map token_of given) × (qs ≡ ps ++ map place_of given))
+    (λ x. (us ≡ map token_of target) × (qs ≡ map place_of target))
+    (λ x all. kept_all target given more ts us ps qs kept all.0 all.1 goes) put

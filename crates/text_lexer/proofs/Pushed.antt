@@ -1,5 +1,6 @@
 -- One element more at the end of a list.
-use Rattle.std.proofs.Common.{◌≡◌, ℕ, ◌+◌, List, [], ◌∷◌, ◌++◌, replicate, map, refl, ap, ◌∙◌, append_assoc}
+use Rattle.std.proofs.Common.{◌≡◌, ℕ, ◌+◌, ◌<◌, List, [], ◌∷◌, ◌++◌, replicate, map, take, get_or, length}
+use Rattle.std.proofs.Common.{refl, sym, ap, ◌∙◌, append_assoc, take-suc, add-one}
 use Rattle.std.proofs.lemmas.List.{map-append, replicate_more}
 
 -- the same element once more
@@ -15,3 +16,10 @@ pub pushed_image : {A B : Type 0} (f : A → B) (given now new : List B) (ys : L
 pushed_image {A} {B} f given now new ys y put is =
     put ∙ ap (λ (l : List B). l ++ (f y ∷ [])) is ∙ append_assoc given (map f ys) (f y ∷ [])
     ∙ ap (λ (l : List B). given ++ l) (rw (map-append f ys (y ∷ [])) refl)
+
+-- one byte more of some bytes
+pub pushed_take : (bytes now new : List ℕ) (i : ℕ) → i < length bytes → new ≡ now ++ (get_or bytes i 0 ∷ []) →
+    now ≡ take i bytes → new ≡ take (i + 1) bytes
+pushed_take bytes now new i within put is =
+    put ∙ ap (λ (l : List ℕ). l ++ (get_or bytes i 0 ∷ [])) is ∙ sym (take-suc bytes i 0 within)
+    ∙ ap (λ (k : ℕ). take k bytes) (sym (add-one i))

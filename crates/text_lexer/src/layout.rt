@@ -3,11 +3,10 @@
 ghost use Rattle.std.specs.Prelude.{◌≡◌, ◌+◌, ◌<◌, ◌≤◌, ◌++◌, length, replicate, IfOk};
 ghost use Rattle.std.specs.Result.{OnOk};
 ghost use Rattle.text_lexer.specs.Layout.{at, put, is_foreign, is_import, indentation, blocks_at};
-ghost use Rattle.text_lexer.specs.Layout.{brackets_behind, brackets_after, with_end, text_end};
-ghost use Rattle.text_lexer.specs.Layout.{laid};
+ghost use Rattle.text_lexer.specs.Layout.{brackets_behind, brackets_after, with_end, text_end, laid};
 
 use crate::blocks::Blocks;
-use crate::line::line_tokens;
+use crate::line::{end_of, line_tokens, with_token};
 use crate::place::{Place, Placed};
 use crate::token::{Fault, Sign, Token};
 use std::alloc::{AllocError, Global};
@@ -76,56 +75,33 @@ fn indent(alloc: Global, blocks: &mut Blocks, first: Place) -> Result<Vec<Placed
     ensures opened { OnOk result (blocks.new ≡ blocks_at first.column blocks.old) }
 {
     let column = first.column;
-    let mut given = Vec::new(alloc);
     let place = Place {
         line: first.line,
         column: 1,
     };
     if blocks.innermost() < column {
         blocks.open(column)?;
-        given.push(Placed {
-            place,
-            token: Token::Indent,
-        })?;
-        return Ok(given);
+        return with_token(Vec::new(alloc), place, Token::Indent);
     }
+    let mut given = Vec::new(alloc);
     let ended = blocks.close(column);
     if blocks.innermost() == column {
         put_dedents(&mut given, place, ended)?;
+        Ok(given)
     } else {
-        given.push(Placed {
-            place,
-            token: Token::Bad(Fault::Indentation),
-        })?;
+        with_token(given, place, Token::Bad(Fault::Indentation))
     }
-    Ok(given)
 }
 
-/// Puts the tokens of a line behind those that are given, and its end where no bracket stays open, and says how many do.
-fn end_line(
-    given: &mut Vec<Placed>,
-    mut tokens: Vec<Placed>,
-    brackets: usize,
-    end: Place,
-) -> Result<usize, AllocError>
-    requires { brackets + length tokens.items < 0x100000000 }
-    ensures given { OnOk result (given.new.items ≡ given.old.items ++ with_end brackets end tokens.items) }
-    ensures brackets { IfOk result (λ after. after ≡ brackets_after brackets tokens.items) }
-    ensures bound { IfOk result (λ after. after ≤ brackets + length tokens.items) }
+/// Some tokens and others behind them.
+fn joined(mut given: Vec<Placed>, mut tokens: Vec<Placed>) -> Result<Vec<Placed>, AllocError>
+    ensures { IfOk result (λ all. all.items ≡ given.items ++ tokens.items) }
 {
-    let after = brackets_after(brackets, &tokens);
     if given.is_empty() {
-        *given = tokens;
-    } else {
-        given.append(&mut tokens)?;
+        return Ok(tokens);
     }
-    if after == 0 {
-        given.push(Placed {
-            place: end,
-            token: Token::NewLine,
-        })?;
-    }
-    Ok(after)
+    given.append(&mut tokens)?;
+    Ok(given)
 }
 
 /// What one line gives, and how many brackets are open behind it.
@@ -133,6 +109,29 @@ fn end_line(
 pub struct LineLaid {
     pub given: Vec<Placed>,
     pub brackets: usize,
+}
+
+/// The tokens of a line behind those that are given, and its end where no bracket stays open.
+fn end_line(
+    given: Vec<Placed>,
+    tokens: Vec<Placed>,
+    brackets: usize,
+    end: Place,
+) -> Result<LineLaid, AllocError>
+    requires { brackets + length tokens.items < 0x100000000 }
+    ensures given { IfOk result (λ l. l.given.items ≡ given.items ++ with_end brackets end tokens.items) }
+    ensures brackets { IfOk result (λ l. l.brackets ≡ brackets_after brackets tokens.items) }
+    ensures bound { IfOk result (λ l. l.brackets ≤ brackets + length tokens.items) }
+{
+    let after = brackets_after(brackets, &tokens);
+    let mut all = joined(given, tokens)?;
+    if after == 0 {
+        all = with_token(all, end, Token::NewLine)?;
+    }
+    Ok(LineLaid {
+        given: all,
+        brackets: after,
+    })
 }
 
 /// A line that begins where no bracket is open.
@@ -167,13 +166,8 @@ fn begin_line(
             brackets: 0,
         });
     }
-    let mut given = indent(alloc, blocks, first.place)?;
-    let end = Place {
-        line,
-        column: bytes.len() as u32 + 1,
-    };
-    let brackets = end_line(&mut given, tokens, 0, end)?;
-    Ok(LineLaid { given, brackets })
+    let given = indent(alloc, blocks, first.place)?;
+    end_line(given, tokens, 0, end_of(line, bytes))
 }
 
 /// What a line gives, behind lines that leave these blocks and so many brackets open; its blocks and brackets are
@@ -196,16 +190,7 @@ pub fn lay_line(
         return begin_line(alloc, blocks, line, bytes);
     }
     let tokens = line_tokens(alloc, line, bytes)?;
-    let mut given = Vec::new(alloc);
-    let end = Place {
-        line,
-        column: bytes.len() as u32 + 1,
-    };
-    let after = end_line(&mut given, tokens, brackets, end)?;
-    Ok(LineLaid {
-        given,
-        brackets: after,
-    })
+    end_line(Vec::new(alloc), tokens, brackets, end_of(line, bytes))
 }
 
 /// What the end of a text gives.
@@ -219,10 +204,7 @@ pub fn end_text(
 {
     let mut given = Vec::new(alloc);
     if brackets > 0 {
-        given.push(Placed {
-            place: end,
-            token: Token::NewLine,
-        })?;
+        given = with_token(given, end, Token::NewLine)?;
     }
     put_dedents(&mut given, end, blocks.len())?;
     Ok(given)

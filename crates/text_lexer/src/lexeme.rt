@@ -5,8 +5,7 @@ ghost use Rattle.std.specs.Prelude.{bytes_eq, take_while};
 ghost use Rattle.std.specs.Char.{is_ascii_digit};
 ghost use Rattle.text_lexer.specs.Quoted.{quoted};
 ghost use Rattle.text_lexer.specs.Lexeme.{word_of, decorator_of, sign_of, sign_with_equals};
-ghost use Rattle.text_lexer.specs.Lexeme.{literal, name_token, name_lexeme, decorator_lexeme};
-ghost use Rattle.text_lexer.specs.Lexeme.{literal_lexeme};
+ghost use Rattle.text_lexer.specs.Lexeme.{literal, name_lexeme, decorator_lexeme, literal_lexeme};
 ghost use Rattle.text_lexer.specs.Lexeme.{string_lexeme, lone_lexeme, sign_lexeme, lexeme_of};
 
 use crate::bytes::{begins_name, digits_at, is_printable, is_quote, name_at};
@@ -29,49 +28,40 @@ fn is_same(text: &[u8], word: &[u8]) -> bool
     text.len() == word.len() && text == word
 }
 
+/// The words that are no names, as they are written.
+const WORDS: [(&[u8], Word); 18] = [
+    (b"and", Word::And),
+    (b"assert", Word::Assert),
+    (b"class", Word::Class),
+    (b"def", Word::Def),
+    (b"else", Word::Else),
+    (b"for", Word::For),
+    (b"from", Word::From),
+    (b"if", Word::If),
+    (b"import", Word::Import),
+    (b"in", Word::In),
+    (b"or", Word::Or),
+    (b"pass", Word::Pass),
+    (b"relu", Word::Relu),
+    (b"select", Word::Select),
+    (b"seq", Word::Seq),
+    (b"stride", Word::Stride),
+    (b"True", Word::True),
+    (b"False", Word::False),
+];
+
 /// The word that is written so.
 fn word_of(text: &[u8]) -> Option<Word>
     ensures { result ≡ word_of text.now }
 {
-    if is_same(text, b"and") {
-        Some(Word::And)
-    } else if is_same(text, b"assert") {
-        Some(Word::Assert)
-    } else if is_same(text, b"class") {
-        Some(Word::Class)
-    } else if is_same(text, b"def") {
-        Some(Word::Def)
-    } else if is_same(text, b"else") {
-        Some(Word::Else)
-    } else if is_same(text, b"for") {
-        Some(Word::For)
-    } else if is_same(text, b"from") {
-        Some(Word::From)
-    } else if is_same(text, b"if") {
-        Some(Word::If)
-    } else if is_same(text, b"import") {
-        Some(Word::Import)
-    } else if is_same(text, b"in") {
-        Some(Word::In)
-    } else if is_same(text, b"or") {
-        Some(Word::Or)
-    } else if is_same(text, b"pass") {
-        Some(Word::Pass)
-    } else if is_same(text, b"relu") {
-        Some(Word::Relu)
-    } else if is_same(text, b"select") {
-        Some(Word::Select)
-    } else if is_same(text, b"seq") {
-        Some(Word::Seq)
-    } else if is_same(text, b"stride") {
-        Some(Word::Stride)
-    } else if is_same(text, b"True") {
-        Some(Word::True)
-    } else if is_same(text, b"False") {
-        Some(Word::False)
-    } else {
-        None
+    let mut words: &[(&[u8], Word)] = &WORDS;
+    while let [(written, word), more @ ..] = words {
+        if is_same(text, written) {
+            return Some(*word);
+        }
+        words = more;
     }
+    None
 }
 
 /// The decorator whose word stands behind an `@`.
@@ -143,30 +133,21 @@ fn literal(digits: &[u8]) -> Literal
     Literal::Value(value)
 }
 
-/// A name; a word or `_` alone is none.
-fn name_token(alloc: Global, text: &[u8]) -> Result<Token, AllocError>
-    requires { EachIndex text.now (λ k. slice_index text.now k < 0x80) }
-    ensures { IfOk result (λ t. t ≡ name_token text.now) }
-{
-    if text == b"_".as_slice() {
-        return Ok(Token::Sign(Sign::Any));
-    }
-    match word_of(text) {
-        Some(word) => Ok(Token::Word(word)),
-        None => Ok(Token::Name(Text::from_slice(alloc, text)?)),
-    }
-}
-
-/// The lexeme of a name.
+/// The lexeme of a name; a word or `_` alone is none.
 fn name_lexeme(alloc: Global, text: &[u8]) -> Result<Lexeme, AllocError>
     requires { EachIndex text.now (λ k. slice_index text.now k < 0x80) }
     ensures { IfOk result (λ p. p ≡ name_lexeme text.now) }
 {
-    let token = name_token(alloc, text)?;
-    Ok(Lexeme {
-        token,
-        width: text.len(),
-    })
+    let width = text.len();
+    if text == b"_".as_slice() {
+        let token = Token::Sign(Sign::Any);
+        return Ok(Lexeme { token, width });
+    }
+    let token = match word_of(text) {
+        Some(word) => Token::Word(word),
+        None => Token::Name(Text::from_slice(alloc, text)?),
+    };
+    Ok(Lexeme { token, width })
 }
 
 /// The lexeme of an `@`, from the bytes behind it with which a name goes on.

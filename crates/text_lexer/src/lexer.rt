@@ -8,7 +8,7 @@ ghost use Rattle.text_lexer.specs.Layout.{layout, lexed, line_lexed, place_of, t
 
 use crate::blocks::Blocks;
 use crate::layout::{end_text, lay_line};
-use crate::line::{is_fault, line_tokens};
+use crate::line::{end_of, is_fault, line_tokens, with_token};
 use crate::place::{Place, Placed};
 use crate::token::Token;
 use std::alloc::{AllocError, Global};
@@ -63,10 +63,7 @@ fn end_place(text: &[u8]) -> Place
     'lines: loop {
         let (bytes, after) = first_line(rest);
         let Some(next) = after else {
-            return Place {
-                line,
-                column: bytes.len() as u32 + 1,
-            };
+            return end_of(line, bytes);
         };
         line += 1;
         rest = next;
@@ -116,8 +113,9 @@ fn room_for(alloc: Global, count: usize) -> Result<Lexed, AllocError>
 
 /// Puts tokens and their places behind those that there are.
 fn give(lexed: &mut Lexed, placed: Vec<Placed>) -> Result<(), AllocError>
-    ensures tokens { OnOk result (lexed.new.tokens.items ≡ lexed.old.tokens.items ++ map token_of placed.items) }
-    ensures places { OnOk result (lexed.new.places.items ≡ lexed.old.places.items ++ map place_of placed.items) }
+    ensures { OnOk result
+        ((lexed.new.tokens.items ≡ lexed.old.tokens.items ++ map token_of placed.items)
+        × (lexed.new.places.items ≡ lexed.old.places.items ++ map place_of placed.items)) }
 {
     for one in placed {
         lexed.tokens.push(one.token)?;
@@ -126,32 +124,30 @@ fn give(lexed: &mut Lexed, placed: Vec<Placed>) -> Result<(), AllocError>
     Ok(())
 }
 
-/// The tokens of a text whose end has this place, up to a fault, and their places.
-fn lay_text(alloc: Global, text: &[u8], end: Place) -> Result<Lexed, AllocError>
-    requires { length text.now ≤ 0x100000 }
-    ensures { IfOk result
-        (λ l. (l.tokens.items ≡ map token_of (up_to_fault (layout end 1 [] 0 (lines text.now))))
-        × (l.places.items ≡ map place_of (up_to_fault (layout end 1 [] 0 (lines text.now))))) }
+/// Puts the tokens of a text whose end has this place, up to a fault, and their places, where there are none.
+fn lay_text(alloc: Global, lexed: &mut Lexed, text: &[u8], end: Place) -> Result<(), AllocError>
+    requires few { length text.now ≤ 0x100000 }
+    requires none { (lexed.old.tokens.items ≡ []) × (lexed.old.places.items ≡ []) }
+    ensures { OnOk result
+        ((lexed.new.tokens.items ≡ map token_of (up_to_fault (layout end 1 [] 0 (lines text.now))))
+        × (lexed.new.places.items ≡ map place_of (up_to_fault (layout end 1 [] 0 (lines text.now))))) }
 {
-    let mut lexed = room_for(alloc, text.len() / COMMON_WIDTH)?;
     let mut open_blocks = Blocks::new(alloc);
     let mut brackets = 0;
     let mut line = 1;
     let mut rest = text;
     'lines: loop {
         let (bytes, after) = first_line(rest);
-        let laid = lay_line(alloc, &mut open_blocks, brackets, line, bytes)?;
-        let mut given = laid.given;
-        let sound = cut_at_fault(&mut given);
-        give(&mut lexed, given)?;
+        let mut laid = lay_line(alloc, &mut open_blocks, brackets, line, bytes)?;
+        let sound = cut_at_fault(&mut laid.given);
+        give(lexed, laid.given)?;
         if !sound {
-            return Ok(lexed);
+            return Ok(());
         }
         brackets = laid.brackets;
         let Some(next) = after else {
             let last = end_text(alloc, &open_blocks, brackets, end)?;
-            give(&mut lexed, last)?;
-            return Ok(lexed);
+            return give(lexed, last);
         };
         line += 1;
         rest = next;
@@ -167,7 +163,8 @@ pub fn lex(alloc: Global, text: &[u8]) -> Result<Lexed, AllocError>
     ensures widths { IfOk result (λ l. least_widths l.tokens.items ≤ length text.now + 1) }
 {
     let end = end_place(text);
-    let mut lexed = lay_text(alloc, text, end)?;
+    let mut lexed = room_for(alloc, text.len() / COMMON_WIDTH)?;
+    lay_text(alloc, &mut lexed, text, end)?;
     lexed.places.push(end)?;
     Ok(lexed)
 }
@@ -178,19 +175,13 @@ fn lay_one_line(alloc: Global, text: &[u8]) -> Result<Vec<Placed>, AllocError>
     ensures { IfOk result (λ placed. placed.items ≡ line_lexed text.now) }
 {
     let (bytes, after) = first_line(text);
-    let mut placed = line_tokens(alloc, 1, bytes)?;
+    let placed = line_tokens(alloc, 1, bytes)?;
     let Some(_) = after else {
         return Ok(placed);
     };
-    placed.push(Placed {
-        place: Place {
-            line: 1,
-            column: bytes.len() as u32 + 1,
-        },
-        token: Token::NewLine,
-    })?;
-    cut_at_fault(&mut placed);
-    Ok(placed)
+    let mut all = with_token(placed, end_of(1, bytes), Token::NewLine)?;
+    cut_at_fault(&mut all);
+    Ok(all)
 }
 
 /// The tokens of a text of at most 2^20 bytes that is to be one line, as the string of an argument, and their places. No
@@ -200,10 +191,9 @@ pub fn lex_line(alloc: Global, text: &[u8]) -> Result<Lexed, AllocError>
     ensures tokens { IfOk result (λ l. l.tokens.items ≡ map token_of (line_lexed text.now)) }
     ensures places { IfOk result (λ l. l.places.items ≡ map place_of (line_lexed text.now) ++ end_place text.now ∷ []) }
 {
-    let end = end_place(text);
     let placed = lay_one_line(alloc, text)?;
     let mut lexed = room_for(alloc, placed.len())?;
     give(&mut lexed, placed)?;
-    lexed.places.push(end)?;
+    lexed.places.push(end_place(text))?;
     Ok(lexed)
 }

@@ -1,7 +1,7 @@
 // The tokens of one line.
 
-ghost use Rattle.std.specs.Prelude.{◌≡◌, ◌+◌, ◌≤◌, ◌<◌, length, IfOk};
-ghost use Rattle.text_lexer.specs.Layout.{line_tokens, is_fault};
+ghost use Rattle.std.specs.Prelude.{◌≡◌, ◌+◌, ◌≤◌, ◌<◌, ◌++◌, [], ◌∷◌, length, IfOk};
+ghost use Rattle.text_lexer.specs.Layout.{at, put, line_tokens, is_fault};
 
 use crate::lexeme::lexeme_of;
 use crate::place::{Place, Placed};
@@ -15,6 +15,29 @@ pub fn is_fault(token: &Token) -> bool
     match token {
         Token::Bad(_) => true,
         _ => false,
+    }
+}
+
+/// Tokens and one more behind them.
+pub fn with_token(
+    mut given: Vec<Placed>,
+    place: Place,
+    token: Token,
+) -> Result<Vec<Placed>, AllocError>
+    ensures { IfOk result (λ all. all.items ≡ given.items ++ put place token ∷ []) }
+{
+    given.push(Placed { place, token })?;
+    Ok(given)
+}
+
+/// The place behind a line.
+pub fn end_of(line: u32, bytes: &[u8]) -> Place
+    requires { length bytes.now < 0xFFFFFFFF }
+    ensures { result ≡ at line (length bytes.now + 1) }
+{
+    Place {
+        line,
+        column: bytes.len() as u32 + 1,
     }
 }
 
@@ -44,10 +67,7 @@ pub fn line_tokens(alloc: Global, line: u32, bytes: &[u8]) -> Result<Vec<Placed>
             column: start as u32 + 1,
         };
         let fault = is_fault(&lexeme.token);
-        tokens.push(Placed {
-            place,
-            token: lexeme.token,
-        })?;
+        tokens = with_token(tokens, place, lexeme.token)?;
         if fault {
             break;
         }

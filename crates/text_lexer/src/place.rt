@@ -3,7 +3,7 @@
 use crate::token::Token;
 
 /// A place in a text; both numbers count from 1.
-#[derive(Clone, Copy, PartialEq, Eq)]
+#[derive(Clone, Copy)]
 pub struct Place {
     pub line: u32,
     pub column: u32,

@@ -5,7 +5,7 @@ ghost use Rattle.std.specs.Prelude.{◌≡◌, [], ◌∷◌, MatchOption};
 use crate::text::Text;
 
 /// A word that is no name.
-#[derive(Clone, Copy, Debug, PartialEq, Eq)]
+#[derive(Clone, Copy, PartialEq, Eq)]
 pub enum Word {
     And,
     Assert,
@@ -28,7 +28,7 @@ pub enum Word {
 }
 
 /// A sign.
-#[derive(Clone, Copy, Debug, PartialEq, Eq)]
+#[derive(Clone, Copy, PartialEq, Eq)]
 pub enum Sign {
     /// `(`
     Open,
@@ -75,7 +75,7 @@ pub enum Sign {
 }
 
 /// What a decorator says of the item below it.
-#[derive(Clone, Copy, Debug, PartialEq, Eq)]
+#[derive(Clone, Copy, PartialEq, Eq)]
 pub enum Decorator {
     /// `@proc`
     Procedure,
@@ -88,7 +88,7 @@ pub enum Decorator {
 }
 
 /// The value of an integer literal.
-#[derive(Clone, Copy, PartialEq, Eq)]
+#[derive(Clone, Copy)]
 pub enum Literal {
     /// A number up to 2^31 - 1.
     Value(u32),
@@ -97,7 +97,7 @@ pub enum Literal {
 }
 
 /// Why a text has no tokens from some byte on.
-#[derive(Clone, Copy, Debug, PartialEq, Eq)]
+#[derive(Clone, Copy)]
 pub enum Fault {
     /// A byte that no text has.
     Byte,

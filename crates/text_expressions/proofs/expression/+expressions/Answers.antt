@@ -7,10 +7,10 @@ use Rattle.text_phrases.proofs.Joints.{whole_err, now, later, both, now_by, late
 use Rattle.std.proofs.lemmas.List.{length-append}
 use Rattle.text_expressions.proofs.Chains.{taken_of_begun}
 use Rattle.text_expressions.proofs.Atoms.{wide_minus, wide_open, wide_relu, wide_select}
-use Rattle.text_expressions.proofs.Made.{made_truth, made_name}
+use Rattle.text_expressions.proofs.Made.{made_truth, made_name, made_negative, made_parens, made_relu}
 use Rattle.text_expressions.proofs.Productions.{step_negative, step_parens, ended_joint, step_relu, open_joint, step_select, choice0, choice1, choice2, choice3}
 use Rattle.text_expressions.proofs.Returns.{renamed, roomed, roomed_err, fronted, fronted_err, true_ok, false_ok, variable_ok, long_err, full_front, full_cell, word_err, sign_err, start_err, end_err, full_err, first_err, begun_first, chain_err, chain_next, compare_none, compare_full, compare_err, compare_ok, all_err, left_of, deep_left, place_under, same_two, same_three, same_four, ended, ended_err, ended_left, ended_deep, deep_indices, deep_inside, cell_err, bracket_err, cell_ok, indices_err_first, indices_full, indices_err, indices_next, deepest_next, indices_ok}
-use Rattle.text_expressions.specs.Expression.{HasPlace}
+use Rattle.text_expressions.specs.Expression.{HasPlace, depth, nodes}
 use Rattle.text_expressions.specs.Views.{tree_of}
 use Rattle.text_expressions.proofs.expression.+expressions.Goals as goal
 
@@ -82,7 +82,9 @@ read_negative-returns-in_err-inner-clause-reads t c =
 
 pub read_negative-returns-clause-reads : goal.read_negative-returns-clause-reads
 read_negative-returns-clause-reads t c =
-    fronted c.requires.front (renamed c.in_ok-negative.ensures.0 (step_taken _ _ _ _ _ _ _ (step_negative _ _ c.in_ok-inside.ensures.1 c.in_ok-inside.ensures.2) (roomed c.in_ok-inside.ensures.0 c.in_ok-inner.ensures.reads)))
+    c.finished.ensures.reads _ _ (renamed (made_negative _) (fronted c.requires.front (step_taken _ _ _ _ _ _ _
+    (step_negative _ _ c.in_ok-inside.ensures.1 c.in_ok-inside.ensures.2)
+    (roomed c.in_ok-inside.ensures.0 c.in_ok-inner.ensures.reads))))
 
 pub read_parens-returns-in_err-inside-clause-reads : goal.read_parens-returns-in_err-inside-clause-reads
 read_parens-returns-in_err-inside-clause-reads t c =
@@ -95,7 +97,8 @@ read_parens-returns-in_err-inner-clause-reads t c =
 
 pub read_parens-returns-clause-reads : goal.read_parens-returns-clause-reads
 read_parens-returns-clause-reads t c =
-    fronted c.requires.front (renamed c.in_ok-parens.ensures.0 (step_taken _ _ _ _ _ _ _ (step_parens _ _ c.in_ok-inside.ensures.1) (ended c.in_ok-inside.ensures.0 c.in_ok-inner.ensures.reads)))
+    c.finished.ensures.reads _ _ (renamed (made_parens _) (fronted c.requires.front (step_taken _ _ _ _ _ _ _
+    (step_parens _ _ c.in_ok-inside.ensures.1) (ended c.in_ok-inside.ensures.0 c.in_ok-inner.ensures.reads))))
 
 -- the function of one argument
 
@@ -117,8 +120,10 @@ read_relu-returns-in_err-inner-clause-reads t c =
 
 pub read_relu-returns-clause-reads : goal.read_relu-returns-clause-reads
 read_relu-returns-clause-reads t c =
-    fronted c.requires.front (renamed c.in_ok-relu.ensures.0 (step_taken _ _ _ _ _ _ _ (step_relu _ _ c.in_ok-inside.ensures.1 c.in_ok-inside.ensures.2)
-    (both (open_joint _ (subst HasPlace c.in_ok-inside.ensures.0 c.in_ok-inside.ensures.3)) c.in_ok-rest.ensures (ended c.in_ok-inside.ensures.0 c.in_ok-inner.ensures.reads))))
+    c.finished.ensures.reads _ _ (renamed (made_relu _) (fronted c.requires.front (step_taken _ _ _ _ _ _ _
+    (step_relu _ _ c.in_ok-inside.ensures.1 c.in_ok-inside.ensures.2)
+    (both (open_joint _ (subst HasPlace c.in_ok-inside.ensures.0 c.in_ok-inside.ensures.3)) c.in_ok-rest.ensures
+    (ended c.in_ok-inside.ensures.0 c.in_ok-inner.ensures.reads)))))
 
 -- names
 
@@ -163,24 +168,24 @@ pub read_from-returns-then-level-eq5-clause-reads : goal.read_from-returns-then-
 read_from-returns-then-level-eq5-clause-reads t c =
     λ tokens taken. rw c.if-level-eq5.true taken
 
-pub read_negative-negated-requires-clause-shallow : goal.read_negative-negated-requires-clause-shallow
-read_negative-negated-requires-clause-shallow t c =
+pub read_negative-overflow_add-inner : goal.read_negative-overflow_add-inner
+read_negative-overflow_add-inner t c =
     omega (arith, c.in_ok-inner.ensures.measured.depth, deep_left _ _ c.in_ok-inside.ensures.0 c.in_ok-inner.ensures.reads)
 
-pub read_negative-negated-requires-clause-few : goal.read_negative-negated-requires-clause-few
-read_negative-negated-requires-clause-few t c =
+pub read_negative-overflow_add-inner-2 : goal.read_negative-overflow_add-inner-2
+read_negative-overflow_add-inner-2 t c =
     omega (arith, c.in_ok-inner.ensures.measured.nodes, left_of _ _ c.in_ok-inside.ensures.0 c.in_ok-inner.ensures.reads)
 
-pub read_parens-enclosed-requires-clause-shallow : goal.read_parens-enclosed-requires-clause-shallow
-read_parens-enclosed-requires-clause-shallow t c =
+pub read_parens-overflow_add-inner : goal.read_parens-overflow_add-inner
+read_parens-overflow_add-inner t c =
     omega (arith, c.in_ok-inner.ensures.measured.depth, ended_deep _ _ c.in_ok-inside.ensures.0 c.in_ok-inner.ensures.reads)
 
-pub read_relu-rectified-requires-clause-shallow : goal.read_relu-rectified-requires-clause-shallow
-read_relu-rectified-requires-clause-shallow t c =
+pub read_relu-overflow_add-inner : goal.read_relu-overflow_add-inner
+read_relu-overflow_add-inner t c =
     omega (arith, c.in_ok-inner.ensures.measured.depth, ended_deep _ _ c.in_ok-inside.ensures.0 c.in_ok-inner.ensures.reads)
 
-pub read_relu-rectified-requires-clause-few : goal.read_relu-rectified-requires-clause-few
-read_relu-rectified-requires-clause-few t c =
+pub read_relu-overflow_add-inner-2 : goal.read_relu-overflow_add-inner-2
+read_relu-overflow_add-inner-2 t c =
     omega (arith, c.in_ok-inner.ensures.measured.nodes, ended_left _ _ c.in_ok-inside.ensures.0 c.in_ok-inner.ensures.reads)
 
 pub read_access-returns-in_err-indices-clause-reads : goal.read_access-returns-in_err-indices-clause-reads
@@ -272,7 +277,7 @@ read_select-returns-in_err-d-clause-reads t c =
 
 pub read_select-returns-clause-reads : goal.read_select-returns-clause-reads
 read_select-returns-clause-reads t c =
-    fronted c.requires.front (renamed c.in_ok-select.ensures.0 (step_taken _ _ _ _ _ _ _ (step_select _ _ c.in_ok-inside.ensures.1)
+    c.selected.ensures.reads _ _ (fronted c.requires.front (step_taken _ _ _ _ _ _ _ (step_select _ _ c.in_ok-inside.ensures.1)
     (both (choice0 c.args.room (subst HasPlace c.in_ok-inside.ensures.0 c.in_ok-inside.ensures.3)) c.in_ok-rest.ensures (both_by (choice1 c.args.room) (ended c.in_ok-inside.ensures.0 c.in_ok-a.ensures.reads) (both_by (choice2 c.args.room (tree_of c.in_ok-a.a.tree.value)) (ended (c.under-behind_a.ensures ∙ same_two c.args.room _ (tree_of c.in_ok-a.a.tree.value) c.in_ok-a.ensures.measured.nodes) c.in_ok-b.ensures.reads) (both_by (choice3 c.args.room (tree_of c.in_ok-a.a.tree.value) (tree_of c.in_ok-b.b.tree.value)) (ended (c.under-behind_b.ensures ∙ same_three c.args.room _ _ (tree_of c.in_ok-a.a.tree.value) (tree_of c.in_ok-b.b.tree.value) c.in_ok-a.ensures.measured.nodes c.in_ok-b.ensures.measured.nodes) c.in_ok-c.ensures.reads) (ended (c.under-behind_c.ensures ∙ same_four c.args.room _ _ _ (tree_of c.in_ok-a.a.tree.value) (tree_of c.in_ok-b.b.tree.value) (tree_of c.in_ok-c.c.tree.value) c.in_ok-a.ensures.measured.nodes c.in_ok-b.ensures.measured.nodes c.in_ok-c.ensures.measured.nodes) c.in_ok-d.ensures.reads)))))))
 
 pub read_select-overflow_add-a : goal.read_select-overflow_add-a
@@ -358,3 +363,60 @@ read_ended-returns-in_err-rest-clause-reads t c =
 pub read_ended-returns-clause-reads : goal.read_ended-returns-clause-reads
 read_ended-returns-clause-reads t c =
     both (ended_joint _ _ c.requires.ends) c.in_ok-inner.ensures.reads c.in_ok-rest.ensures
+
+-- what is measured, and what gets shorter
+
+pub read_chain-loop-operator-smaller : goal.read_chain-loop-operator-smaller
+read_chain-loop-operator-smaller t c =
+    omega (arith, taken_shorter c.in_ok-right.ensures.reads, ap length c.in-Some.ensures.0)
+
+pub read_comparison-returns-clause-shorter : goal.read_comparison-returns-clause-shorter
+read_comparison-returns-clause-shorter t c =
+    omega (arith, taken_shorter c.in_ok-right.ensures.reads, ap length c.in-Some.ensures.0)
+
+pub read_indices-more-smaller : goal.read_indices-more-smaller
+read_indices-more-smaller t c =
+    omega (arith, taken_shorter c.in_ok-index.ensures.reads, ap length c.in-Some.ensures)
+
+pub read_select-selected-requires-clause-measured : goal.read_select-selected-requires-clause-measured
+read_select-selected-requires-clause-measured t c =
+    (c.in_ok-a.ensures.measured, c.in_ok-b.ensures.measured, c.in_ok-c.ensures.measured, c.in_ok-d.ensures.measured)
+
+pub read_chain-joined-requires-clause-measured : goal.read_chain-joined-requires-clause-measured
+read_chain-joined-requires-clause-measured t c = (c.loop-operator.invariant.measured, c.in_ok-right.ensures.measured)
+
+pub read_comparison-joined-requires-clause-measured : goal.read_comparison-joined-requires-clause-measured
+read_comparison-joined-requires-clause-measured t c = (c.requires.measured, c.in_ok-right.ensures.measured)
+
+pub read_operand-read_from-requires : goal.read_operand-read_from-requires
+read_operand-read_from-requires t c = (
+  omega (arith, taken_shorter c.in_ok-atom.ensures.reads),
+  (c.requires.levels, (c.requires.place, c.in_ok-atom.ensures.measured)),
+)
+
+pub read_negative-finished-requires-clause-deep : goal.read_negative-finished-requires-clause-deep
+read_negative-finished-requires-clause-deep t c =
+    omega (arith, ap depth (made_negative c.in_ok-inner.inner.tree), c.in_ok-inner.ensures.measured.depth)
+
+pub read_negative-finished-requires-clause-long : goal.read_negative-finished-requires-clause-long
+read_negative-finished-requires-clause-long t c =
+    omega (arith, ap nodes (made_negative c.in_ok-inner.inner.tree), c.in_ok-inner.ensures.measured.nodes)
+
+pub read_parens-finished-requires-clause-deep : goal.read_parens-finished-requires-clause-deep
+read_parens-finished-requires-clause-deep t c =
+    omega (arith, ap depth (made_parens c.in_ok-inner.inner.tree), c.in_ok-inner.ensures.measured.depth)
+
+pub read_parens-finished-requires-clause-long : goal.read_parens-finished-requires-clause-long
+read_parens-finished-requires-clause-long t c =
+    omega (arith, ap nodes (made_parens c.in_ok-inner.inner.tree), c.in_ok-inner.ensures.measured.nodes)
+
+pub read_relu-finished-requires-clause-deep : goal.read_relu-finished-requires-clause-deep
+read_relu-finished-requires-clause-deep t c =
+    omega (arith, ap depth (made_relu c.in_ok-inner.inner.tree), c.in_ok-inner.ensures.measured.depth)
+
+pub read_relu-finished-requires-clause-long : goal.read_relu-finished-requires-clause-long
+read_relu-finished-requires-clause-long t c =
+    omega (arith, ap nodes (made_relu c.in_ok-inner.inner.tree), c.in_ok-inner.ensures.measured.nodes)
+
+pub read_access-accessed-requires-clause-measured : goal.read_access-accessed-requires-clause-measured
+read_access-accessed-requires-clause-measured t c = c.in_ok-indices.ensures.measured

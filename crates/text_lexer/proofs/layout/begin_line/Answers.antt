@@ -1,9 +1,16 @@
-use Rattle.std.proofs.Common.{ap, arith, sym, ◌∙◌, ◌++◌, ◌+◌, List, length}
+use Rattle.std.proofs.Common.{ap, arith, subst, sym, ◌≡◌, ◌∙◌, ◌++◌, ◌+◌, ◌≤◌, ℕ, List, length}
+use Rattle.std.specs.Prelude.{IfOk}
+use Rattle.std.proofs.lemmas.Result.{IfOk-weaker}
 use Rattle.text_lexer.specs.Layout.{at, with_end}
+use Rattle.text_lexer.specs.declared.layout.LineLaid.{LineLaid}
+use Rattle.text_lexer.specs.declared.place.Place.{Place}
 use Rattle.text_lexer.specs.declared.place.Placed.{Placed}
 use Rattle.text_lexer.proofs.Begun.{laid_import, laid_none, laid_foreign, laid_some}
 use Rattle.text_lexer.proofs.Begun.{placed_of, blocks_of, brackets_of}
 use Rattle.text_lexer.proofs.layout.begin_line.Goals as goal
+
+within : (n k m : ℕ) → n ≤ 0 + k → k ≤ m → n ≤ m
+within n k m few less = omega arith
 
 pub returns-then-is_import : goal.returns-then-is_import
 returns-then-is_import c =
@@ -48,13 +55,19 @@ returns c =
     sym (laid_some c.args.line c.args.blocks.now c.args.bytes.now c.in_ok-tokens.tokens.items
     c.deref.result.now c.in-Some.first.now c.if-is_import.ensures c.in_ok-tokens.ensures.value
     c.deref.ensures.value c.in-Some.ensures.value c.if-is_foreign.ensures) in
-    let end = at c.args.line (length c.args.bytes.now + 1) in
-    let ended =
-    ap (λ (ts : List Placed). ts ++ with_end 0 end c.in_ok-tokens.tokens.items)
-    c.in_ok-given.ensures.given in
+    let result = c.end_line.result in
     record {
-      given = c.in_ok-brackets.ensures.given ∙ ended ∙ ap placed_of laid;
-      opened = c.in_ok-given.ensures.opened ∙ ap blocks_of laid;
-      brackets = c.in_ok-brackets.ensures.brackets ∙ ap brackets_of laid;
-      bound = omega (arith, c.in_ok-brackets.ensures.bound, c.in_ok-tokens.ensures);
+      given = subst (λ (ts : List Placed). IfOk result (λ l. l.given.items ≡ ts))
+          (ap (λ (e : Place). c.in_ok-given.given.items ++ with_end 0 e c.in_ok-tokens.tokens.items) c.end_of.ensures
+          ∙ ap (λ (ts : List Placed). ts ++ with_end 0 (at c.args.line (length c.args.bytes.now + 1))
+          c.in_ok-tokens.tokens.items) c.in_ok-given.ensures.given
+          ∙ ap placed_of laid)
+          c.end_line.ensures.given;
+      opened = IfOk-weaker result _ _
+          (λ l some. c.in_ok-given.ensures.opened ∙ ap blocks_of laid) c.end_line.ensures.brackets;
+      brackets = subst (λ (n : ℕ). IfOk result (λ l. l.brackets ≡ n)) (ap brackets_of laid)
+          c.end_line.ensures.brackets;
+      bound = IfOk-weaker result _ _
+          (λ (l : LineLaid) few. within l.brackets _ _ few c.in_ok-tokens.ensures.bound)
+          c.end_line.ensures.bound;
     }

@@ -11,6 +11,7 @@ returns-in_default c = c.in_ok-placed.ensures.value ∙ sym (ap one_line (parted
 pub returns : goal.returns
 returns c =
     let value = rw c.in-Some.is at c.first_line.ensures.value in
-    c.cut_at_fault.ensures.cut ∙ ap up_to_fault c.in_ok-push.ensures.items
+    c.cut_at_fault.ensures.cut ∙ ap up_to_fault (c.in_ok-all.ensures
+    ∙ ap (λ e. c.in_ok-placed.placed.items ++ (put e NewLine ∷ [])) c.end_of.ensures)
     ∙ ap (λ (ts : List Placed). up_to_fault (ts ++ (put (at 1 (length c.first_line.result.0.now + 1)) NewLine ∷ []))) c.in_ok-placed.ensures.value
     ∙ one_more c.args.text.now c.first_line.result.0.now c.in-Some.field-0.now value
