@@ -1,5 +1,6 @@
 -- The coordinates of windows.
-use Rattle.std.proofs.Common.{◌≡◌, ℕ, ◌<◌, ◌≤◌, max, List, [], ◌∷◌, ◌++◌, Option, Some, true, false, ◌||◌, length, refl, sym, ap, ◌∙◌, append_assoc, subst, arith, map}
+use Rattle.std.proofs.Common.{◌≡◌, ℕ, ◌<◌, ◌≤◌, max, List, [], ◌∷◌, ◌++◌, Option, Some, Bool, true, false}
+use Rattle.std.proofs.Common.{◌||◌, length, refl, sym, ap, ◌∙◌, append_assoc, subst, arith, map, ◌⊎◌, inl, inr}
 use Rattle.std.proofs.lemmas.List.{length-append, length-map}
 use Rattle.text_phrases.specs.Limits.{Limits, in_depth, Cause, passed, too_long}
 use Rattle.text_phrases.specs.Phrase.{first, Taken, Refused}
@@ -8,17 +9,20 @@ use Rattle.text_phrases.specs.declared.Refusal.{Refusal}
 use Rattle.text_phrases.proofs.Phrases.{goes_along, taken_rest}
 use Rattle.text_phrases.proofs.Exits.{refuses_along}
 use Rattle.text_phrases.proofs.Sequences.{Back, Step}
-use Rattle.text_phrases.proofs.Commas.{CommaApart, Listed, listing_refused_first, listing_refused, listing_full, listing_done}
+use Rattle.text_phrases.proofs.Commas.{CommaApart, Listed, listed_first, listed_next, listing_refused_first}
+use Rattle.text_phrases.proofs.Commas.{listing_refused, listing_full, listing_done}
 use Rattle.text_expressions.specs.Expression.{Tree, trees, number, truth, variable, access, field, stride, relu, select, negative, parens, binary, sign, deepest, spelling, FollowsOperand, control, FewDimensions, EndsList}
 use Rattle.text_lexer.specs.declared.token.Token.{Token}
-use Rattle.text_lexer.specs.declared.token.Token.TheVariants.{Name, Int, Sign, Word}
-use Rattle.text_lexer.specs.declared.token.Sign.TheVariants.{Open, CloseBracket, Comma, Colon, Minus}
-use Rattle.text_lexer.specs.declared.token.Word.TheVariants as w
+use Rattle.text_lexer.specs.declared.token.Token.TheVariants.{Sign}
+use Rattle.text_lexer.specs.declared.token.Sign.TheVariants.{Close, CloseBracket, Comma, Colon}
 use Rattle.exo_reader.specs.Source.{Coordinate, point, span}
 use Rattle.exo_reader.specs.Statements.{FollowsCoordinate, coordinate, coordinates}
-use Rattle.exo_reader.specs.Windows.{low_of, low_depth, lowest, is_span, has_span}
+use Rattle.exo_reader.specs.Windows.{low_of, low_depth, lowest, is_span, has_span, AreNoted}
 use Rattle.exo_reader.specs.Views.{plain_coordinate}
 use Rattle.exo_reader.specs.declared.source.SourceCoord.{SourceCoord}
+use Rattle.text_expressions.specs.declared.source.SourceExpr.{SourceExpr}
+use Rattle.text_expressions.specs.Views.{tree_of}
+use Rattle.exo_reader.specs.declared.argument.NotedCoords.{NotedCoords}
 use Rattle.exo_reader.proofs.Parts.{zero, control_zero}
 use Rattle.exo_reader.proofs.Lists.{map_snoc}
 
@@ -90,25 +94,34 @@ step_span tokens rest after low read colon =
       back = λ limits other x y same fits follows equal. span_back tokens after low limits other x y taken fits follows (sym (append_assoc (spelling low) (Sign Colon ∷ []) x) ∙ equal);
     }
 
--- no coordinate begins with the bracket that ends them
+-- no expression begins with what closes a list
 
-no_close : (e : Tree) (y : List Token) → first (spelling e ++ y) ≡ Some (Sign CloseBracket) → ⊥
-no_close (number n) y same = let e : Int n ≡ Sign CloseBracket = cc (same) in cc (e)
-no_close (truth true) y same = let e : Word w.True ≡ Sign CloseBracket = cc (same) in cc (e)
-no_close (truth false) y same = let e : Word w.False ≡ Sign CloseBracket = cc (same) in cc (e)
-no_close (variable x) y same = let e : Name x ≡ Sign CloseBracket = cc (same) in cc (e)
-no_close (access x list) y same = let e : Name x ≡ Sign CloseBracket = cc (same) in cc (e)
-no_close (field x f) y same = let e : Name x ≡ Sign CloseBracket = cc (same) in cc (e)
-no_close (stride x n) y same = let e : Word w.Stride ≡ Sign CloseBracket = cc (same) in cc (e)
-no_close (relu a) y same = let e : Word w.Relu ≡ Sign CloseBracket = cc (same) in cc (e)
-no_close (select a b c d) y same = let e : Word w.Select ≡ Sign CloseBracket = cc (same) in cc (e)
-no_close (negative a) y same = let e : Sign Minus ≡ Sign CloseBracket = cc (same) in cc (e)
-no_close (parens a) y same = let e : Sign Open ≡ Sign CloseBracket = cc (same) in cc (e)
-no_close (binary o a b) y same = no_close a (sign o ∷ (spelling b ++ y)) (sym (ap first (append_assoc (spelling a) (sign o ∷ spelling b) y)) ∙ same)
+abbrev pub Opens : Option Token → Type 0
+Opens (Some (Sign Close)) = ⊥
+Opens (Some (Sign CloseBracket)) = ⊥
+Opens other = Unit {0}
+
+pub opens : (e : Tree) (y : List Token) → Opens (first (spelling e ++ y))
+opens (number n) y = tt
+opens (truth true) y = tt
+opens (truth false) y = tt
+opens (variable x) y = tt
+opens (access x list) y = tt
+opens (field x f) y = tt
+opens (stride x n) y = tt
+opens (relu a) y = tt
+opens (select a b c d) y = tt
+opens (negative a) y = tt
+opens (parens a) y = tt
+opens (binary o a b) y =
+    subst (λ w. Opens (first w)) (sym (append_assoc (spelling a) (sign o ∷ spelling b) y))
+    (opens a (sign o ∷ (spelling b ++ y)))
 
 coordinate_apart : (c : Coordinate) (y : List Token) → first (coordinate.spell c ++ y) ≡ Some (Sign CloseBracket) → ⊥
-coordinate_apart (point e) y same = no_close e y same
-coordinate_apart (span a b) y same = no_close a (Sign Colon ∷ (spelling b ++ y)) (sym (ap first (append_assoc (spelling a) (Sign Colon ∷ spelling b) y)) ∙ same)
+coordinate_apart (point e) y same = subst Opens same (opens e y)
+coordinate_apart (span a b) y same =
+    subst Opens (sym (ap first (append_assoc (spelling a) (Sign Colon ∷ spelling b) y)) ∙ same)
+    (opens a (Sign Colon ∷ (spelling b ++ y)))
 
 pub coords_apart : CommaApart coordinate (Sign Comma) EndsList
 coords_apart = record {
@@ -150,9 +163,6 @@ coords_done tokens rest list listed few none = listing_done coordinate (Sign Com
 
 -- depths and spans
 
-pub lowest_one : (c : Coordinate) → lowest (c ∷ []) ≡ low_depth c
-lowest_one c = omega arith
-
 pub low_deepest : (list : List Coordinate) → deepest (trees (map low_of list)) ≡ lowest list
 low_deepest [] = refl
 low_deepest (c ∷ list) = ap (λ d. max (low_depth c) d) (low_deepest list)
@@ -172,3 +182,93 @@ span_snoc (span a b ∷ list) c = refl
 
 pub plain_snoc : (list : List SourceCoord) (c : SourceCoord) → map plain_coordinate (list ++ (c ∷ [])) ≡ map plain_coordinate list ++ (plain_coordinate c ∷ [])
 plain_snoc list c = map_snoc plain_coordinate list c
+
+-- the depth and the spans with one more coordinate
+
+pub deeper :
+    (list : List SourceCoord) (c : SourceCoord) (deep depth : ℕ) → deep ≡ lowest (map plain_coordinate list) →
+    depth ≡ low_depth (plain_coordinate c) → max deep depth ≡ lowest (map plain_coordinate (list ++ (c ∷ [])))
+deeper list c deep depth noted own =
+    rw (noted, own, plain_snoc list c) (sym (lowest_snoc (map plain_coordinate list) (plain_coordinate c)))
+
+pub spans_more :
+    (list : List SourceCoord) (c : SourceCoord) (spans one : Bool) → spans ≡ has_span
+    (map plain_coordinate list) → one ≡ is_span (plain_coordinate c) → (spans || one) ≡ has_span
+    (map plain_coordinate (list ++ (c ∷ [])))
+spans_more list c spans one noted own =
+    rw (noted, own, plain_snoc list c) (sym (span_snoc (map plain_coordinate list) (plain_coordinate c)))
+
+-- what stands before a coordinate: none was read, or some and a comma, with room for one more
+abbrev pub Coords_read : List Token → List SourceCoord → List Token → Type 0
+Coords_read tokens list rest =
+    ((list ≡ []) × (tokens ≡ rest)) ⊎ (Listed coordinate (Sign Comma) EndsList tokens
+    (map plain_coordinate list) (Sign Comma ∷ rest) × (length list < 8))
+
+coords_few : (tokens rest : List Token) (list : List SourceCoord) → Coords_read tokens list rest → length list < 8
+coords_few tokens rest list (inl none) = omega (arith, ap length none.0)
+coords_few tokens rest list (inr some) = some.1
+
+coords_some :
+    (tokens rest found : List Token) (list : List SourceCoord) (c : SourceCoord) → Coords_read tokens list rest
+    → Taken coordinate rest (plain_coordinate c) found → Listed coordinate (Sign Comma) EndsList tokens
+    (map plain_coordinate (list ++ (c ∷ []))) found
+coords_some tokens rest found list c (inl none) taken =
+    rw (none.0, none.1) (listed_first coordinate (Sign Comma) EndsList rest found (plain_coordinate c) taken)
+coords_some tokens rest found list c (inr some) taken =
+    rw (plain_snoc list c) (listed_next coordinate (Sign Comma) EndsList tokens (Sign Comma ∷ rest) rest found
+    (map plain_coordinate list) (plain_coordinate c) coords_apart some.0 refl taken)
+
+one_longer :
+    (tokens rest : List Token) (list : List SourceCoord) (c : SourceCoord) → Coords_read tokens list rest →
+    length (list ++ (c ∷ [])) ≤ 8
+one_longer tokens rest list c begun = omega (arith, coords_few tokens rest list begun, length-append list (c ∷ []))
+
+-- one more coordinate and a comma are read
+pub coords_more :
+    (tokens rest found after : List Token) (list : List SourceCoord) (c : SourceCoord) → Coords_read tokens list
+    rest → Taken coordinate rest (plain_coordinate c) found → found ≡ Sign Comma ∷ after → length
+    (list ++ (c ∷ [])) < 8 → Coords_read tokens (list ++ (c ∷ [])) after
+coords_more tokens rest found after list c begun taken comma less =
+    inr (rw (sym comma) (coords_some tokens rest found list c begun taken), less)
+
+-- the last coordinate is read
+pub coords_last :
+    (tokens rest found : List Token) (list : List SourceCoord) (c : SourceCoord) → Coords_read tokens list rest
+    → Taken coordinate rest (plain_coordinate c) found → (first found ≡ Some (Sign Comma) → ⊥) → Taken
+    coordinates tokens (map plain_coordinate (list ++ (c ∷ []))) found
+coords_last tokens rest found list c begun taken none =
+    coords_done tokens found (list ++ (c ∷ [])) (coords_some tokens rest found list c begun taken)
+    (one_longer tokens rest list c begun) none
+
+-- there is no room for one more
+pub coords_over :
+    (tokens rest found after : List Token) (list : List SourceCoord) (c : SourceCoord) → Coords_read tokens list
+    rest → Taken coordinate rest (plain_coordinate c) found → found ≡ Sign Comma ∷ after → 8 ≤ length
+    (list ++ (c ∷ [])) → Refused coordinates too_long tokens (length found)
+coords_over tokens rest found after list c begun taken comma full =
+    coords_full tokens found after (list ++ (c ∷ [])) (coords_some tokens rest found list c begun taken) comma
+    (one_longer tokens rest list c begun) full
+
+-- a coordinate is refused
+pub coords_err :
+    (tokens rest : List Token) (list : List SourceCoord) (e : Refusal) → Coords_read tokens list rest → Refuses
+    coordinate rest e → Refuses coordinates tokens e
+coords_err tokens rest list e (inl none) refuses = rw none.1 (coords_err_first rest e refuses)
+coords_err tokens rest list e (inr some) refuses =
+    coords_err_next tokens (Sign Comma ∷ rest) rest list e some.0 refl some.1 refuses
+
+pub none_noted : (l : NotedCoords) → l.items.items ≡ [] → l.depth ≡ 0 → l.spans ≡ false → AreNoted l
+none_noted l none depth spans = record { depth = rw (none, depth) refl; spans = rw (none, spans) refl }
+
+pub lows_snoc :
+    (list : List SourceExpr) (coords : List SourceCoord) (e : SourceExpr) (c : SourceCoord) → map tree_of list ≡
+    map low_of (map plain_coordinate coords) → tree_of e ≡ low_of (plain_coordinate c) → map tree_of
+    (list ++ (e ∷ [])) ≡ map low_of (map plain_coordinate (coords ++ (c ∷ [])))
+lows_snoc list coords e c same own =
+    rw (
+      map_snoc tree_of list e,
+      plain_snoc coords c,
+      map_snoc low_of (map plain_coordinate coords) (plain_coordinate c),
+      same,
+      own,
+    ) refl

@@ -389,12 +389,6 @@ fields_apart = record { begins = λ limits f y fits ends. starts_line f.name end
 pub attributes_apart : Apart attribute (Is Dedent)
 attributes_apart = record { begins = λ limits a y fits ends. starts_line a.name ends; next = λ limits a y fits. tt; last = λ o ends. tt }
 
-pub fields_end : Joint (some_of field (Is Dedent)) (exactly (Dedent ∷ []))
-fields_end = record { may = record { may = λ limits q y fits follows. refl }; some = tt; fits = λ limits. tt }
-
-pub attributes_end : Joint (some_of attribute (Is Dedent)) (exactly (Dedent ∷ []))
-attributes_end = record { may = record { may = λ limits q y fits follows. refl }; some = tt; fits = λ limits. tt }
-
 pub field_shorter : (tokens rest : List Token) (f : ConfigField) → Taken field tokens f rest → length rest < length tokens
 field_shorter tokens rest f taken = omega (arith, ap length taken.whole, length-append (field.spell f) rest)
 

@@ -1,20 +1,22 @@
 -- Lists that loops read.
-use Rattle.std.proofs.Common.{◌≡◌, ◌≤◌, List, [], ◌∷◌, ◌++◌, Option, Some, Bool, true, false, length, refl, sym, ap, ◌∙◌, append_assoc, subst, arith, map}
+use Rattle.std.proofs.Common.{◌≡◌, ◌≤◌, ◌<◌, List, [], ◌∷◌, ◌++◌, Option, Some, Bool, true, false, length}
+use Rattle.std.proofs.Common.{refl, sym, ap, ◌∙◌, append_assoc, subst, arith, map, ◌⊎◌, inl, inr}
 use Rattle.std.proofs.lemmas.List.{length-append, append-nil}
 use Rattle.text_phrases.specs.Limits.{Limits, in_depth, in_length, syntax, too_long}
 use Rattle.text_phrases.specs.Phrase.{first, Phrase, Taken, Refused}
-use Rattle.text_phrases.specs.Sequence.{AllFit, spell_all, then, many}
+use Rattle.text_phrases.specs.Sequence.{AllFit, spell_all, then, many, exactly}
 use Rattle.text_phrases.specs.Commas.{spell_more, commas}
 use Rattle.text_phrases.specs.Answers.{Refuses}
 use Rattle.text_phrases.specs.declared.Refusal.{Refusal}
 use Rattle.text_phrases.specs.declared.Refusal.TheVariants.{Syntax, TooLong}
 use Rattle.text_phrases.proofs.Phrases.{keeps_all}
 use Rattle.text_phrases.proofs.Exits.{refuses_along}
-use Rattle.text_phrases.proofs.Sequences.{Back, Step, step_taken, Items, items_none, items_next, items_done, items_refused, Apart}
+use Rattle.text_phrases.proofs.Sequences.{Back, Step, step_taken, Items, items_none, items_next}
+use Rattle.text_phrases.proofs.Sequences.{items_done, items_refused, Apart, taken_exactly}
 use Rattle.text_phrases.proofs.Commas.{CommaApart, Commas, commas_none, commas_next, commas_refused, commas_full, commas_done, commas_trailing}
 use Rattle.text_phrases.proofs.Joints.{Joint, now, later, both, whole_err}
 use Rattle.text_lexer.specs.declared.token.Token.{Token}
-use Rattle.text_lexer.specs.declared.token.Token.TheVariants.{Sign}
+use Rattle.text_lexer.specs.declared.token.Token.TheVariants.{Sign, Dedent}
 use Rattle.text_lexer.specs.declared.token.Sign.TheVariants.{Close, Comma}
 use Rattle.exo_reader.specs.Parts.{Is, some_of, EnclosedFit, spell_enclosed, enclosed}
 
@@ -86,6 +88,69 @@ some_err P ends plain tokens rest list e apart begun unended refuses =
     (refuses_along P rest (many P ends) begun.middle e
     (λ cause last refused. items_refused P ends begun.middle rest (map plain begun.tail) last apart begun.items unended refused)
     refuses))
+
+-- lines of a block
+
+ended : {T : Type 0} (P : Phrase Token T) → Joint (some_of P (Is Dedent)) (exactly (Dedent ∷ []))
+ended P = record { may = record { may = λ limits q y fits follows. refl }; some = tt; fits = λ limits. tt }
+
+-- what stands before a line: none was read, or some and the block goes on
+abbrev pub Lines_read : {X T : Type 0} → Phrase Token T → (X → T) → List Token → List X → List Token → Type 0
+Lines_read P plain tokens list rest =
+    ((list ≡ []) × (tokens ≡ rest)) ⊎ (Some_read P (Is Dedent) plain tokens list rest ×
+    (first rest ≡ Some Dedent → ⊥))
+
+lines_some :
+    {X T : Type 0} (P : Phrase Token T) (plain : X → T) (tokens rest after : List Token) (list : List X) (s : X)
+    → Apart P (Is Dedent) → Lines_read P plain tokens list rest → Taken P rest (plain s) after → Some_read P
+    (Is Dedent) plain tokens (list ++ (s ∷ [])) after
+lines_some P plain tokens rest after list s apart (inl none) taken =
+    rw (none.0, none.1) (some_first P (Is Dedent) plain rest after s taken)
+lines_some P plain tokens rest after list s apart (inr some) taken =
+    some_next P (Is Dedent) plain tokens rest after list s apart some.0 taken
+
+-- one more line is read
+pub lines_more :
+    {X T : Type 0} (P : Phrase Token T) (plain : X → T) (tokens rest after : List Token) (list : List X) (s : X)
+    → Apart P (Is Dedent) → Lines_read P plain tokens list rest → Taken P rest (plain s) after →
+    (first after ≡ Some Dedent → ⊥) → Lines_read P plain tokens (list ++ (s ∷ [])) after
+lines_more P plain tokens rest after list s apart begun taken goes =
+    inr (lines_some P plain tokens rest after list s apart begun taken, goes)
+
+-- the last line is read
+pub lines_done :
+    {X T : Type 0} (P : Phrase Token T) (plain : X → T) (tokens rest after behind : List Token) (list : List X)
+    (s : X) → Apart P (Is Dedent) → Lines_read P plain tokens list rest → Taken P rest (plain s) after → after ≡
+    Dedent ∷ behind → Taken (then (some_of P (Is Dedent)) (exactly (Dedent ∷ []))) tokens
+    (map plain (list ++ (s ∷ [])), tt) behind
+lines_done P plain tokens rest after behind list s apart begun taken ends =
+    both (ended P) (some_done P (Is Dedent) plain tokens after (list ++ (s ∷ [])) apart
+    (lines_some P plain tokens rest after list s apart begun taken) (ap first ends))
+    (taken_exactly (Dedent ∷ []) after behind ends)
+
+-- a line is refused
+pub lines_err :
+    {X T : Type 0} (P : Phrase Token T) (plain : X → T) (tokens rest : List Token) (list : List X) (e : Refusal)
+    → Apart P (Is Dedent) → Lines_read P plain tokens list rest → Refuses P rest e → Refuses
+    (then (some_of P (Is Dedent)) (exactly (Dedent ∷ []))) tokens e
+lines_err P plain tokens rest list e apart (inl none) refuses =
+    rw none.1 (now (ended P) rest e (some_err_first P (Is Dedent) rest e apart refuses))
+lines_err P plain tokens rest list e apart (inr some) refuses =
+    now (ended P) tokens e (some_err P (Is Dedent) plain tokens rest list e apart some.0 some.1 refuses)
+
+-- what is left behind some lines is not longer
+pub lines_shorter :
+    {X T : Type 0} (P : Phrase Token T) (plain : X → T) (tokens rest : List Token) (list : List X) → Lines_read
+    P plain tokens list rest → length rest ≤ length tokens
+lines_shorter P plain tokens rest list (inl none) = omega (arith, ap length none.1)
+lines_shorter P plain tokens rest list (inr some) =
+    omega (
+      arith,
+      ap length some.0.taken.whole,
+      length-append (P.spell (plain some.0.head)) some.0.middle,
+      ap length some.0.items.whole,
+      length-append (spell_all P (map plain some.0.tail)) rest,
+    )
 
 -- items between parentheses
 
@@ -264,10 +329,71 @@ enclosed_full P Short plain tokens rest after more list t token can begun comma 
     (commas_full P (Sign Comma) Short (Is (Sign Close)) begun.middle after more (map plain begun.tail) t token (enclosed_apart P Short can)
     (subst (Commas P (Sign Comma) (Is (Sign Close)) begun.middle (map plain begun.tail)) comma begun.items) begun.short unclosed next fits spelled over)
 
--- what is left behind some of a phrase is not longer
-pub some_shorter : {X T : Type 0} (P : Phrase Token T) (ends : Option Token → Type 0) (plain : X → T) (tokens rest : List Token) (list : List X) → Some_read P ends plain tokens list rest → length rest ≤ length tokens
-some_shorter P ends plain tokens rest list begun =
-    omega (arith, ap length begun.taken.whole, length-append (P.spell (plain begun.head)) begun.middle, ap length begun.items.whole, length-append (spell_all P (map plain begun.tail)) rest)
+-- what stands before an item: none was read, or some and a comma
+abbrev pub Items_read :
+    {X T : Type 0} → Phrase Token T → (List T → Type 0) → (X → T) → List Token → List X → Bool → List Token → Type 0
+Items_read P Short plain tokens list comma rest =
+    ((list ≡ []) × (comma ≡ false) × (tokens ≡ rest)) ⊎ (Enclosed_read P Short plain tokens list
+    (Sign Comma ∷ rest) × (comma ≡ true))
+
+items_some :
+    {X T : Type 0} (P : Phrase Token T) (Short : List T → Type 0) (plain : X → T)
+    (tokens rest found : List Token) (list : List X) (comma : Bool) (p : X) → Enclosable P Short → Room Short
+    plain list → Items_read P Short plain tokens list comma rest → (first rest ≡ Some (Sign Close) → ⊥) → Taken
+    P rest (plain p) found → Enclosed_read P Short plain tokens (list ++ (p ∷ [])) found
+items_some P Short plain tokens rest found list comma p can room (inl none) goes taken =
+    rw (none.0, none.2) (enclosed_first P Short plain rest found p can goes taken)
+items_some P Short plain tokens rest found list comma p can room (inr some) goes taken =
+    enclosed_next P Short plain tokens (Sign Comma ∷ rest) rest found list p can room some.0 refl taken
+
+-- one more item and a comma are read
+pub items_more :
+    {X T : Type 0} (P : Phrase Token T) (Short : List T → Type 0) (plain : X → T)
+    (tokens rest found after : List Token) (list : List X) (comma : Bool) (p : X) → Enclosable P Short → Room
+    Short plain list → Items_read P Short plain tokens list comma rest → (first rest ≡ Some (Sign Close) → ⊥) →
+    Taken P rest (plain p) found → found ≡ Sign Comma ∷ after → Items_read P Short plain tokens
+    (list ++ (p ∷ [])) true after
+items_more P Short plain tokens rest found after list comma p can room begun goes taken here =
+    inr (rw (sym here) (items_some P Short plain tokens rest found list comma p can room begun goes taken), refl)
+
+-- the last item is read, with no comma behind it
+pub items_last :
+    {X T : Type 0} (P : Phrase Token T) (Short : List T → Type 0) (plain : X → T)
+    (tokens rest found : List Token) (list : List X) (comma : Bool) (p : X) → Enclosable P Short → Room Short
+    plain list → Items_read P Short plain tokens list comma rest → (first rest ≡ Some (Sign Close) → ⊥) → Taken
+    P rest (plain p) found → (first found ≡ Some (Sign Comma) → ⊥) → Taken (enclosed P Short) tokens
+    (map plain (list ++ (p ∷ [])), false) found
+items_last P Short plain tokens rest found list comma p can room begun goes taken none =
+    enclosed_done P Short plain tokens found (list ++ (p ∷ [])) can
+    (items_some P Short plain tokens rest found list comma p can room begun goes taken) none
+
+-- the list ends with a comma, or is empty
+pub items_ended :
+    {X T : Type 0} (P : Phrase Token T) (Short : List T → Type 0) (plain : X → T) (tokens rest : List Token)
+    (list : List X) (comma : Bool) → Enclosable P Short → Items_read P Short plain tokens list comma rest →
+    first rest ≡ Some (Sign Close) → Taken (enclosed P Short) tokens (map plain list, comma) rest
+items_ended P Short plain tokens rest list comma can (inl none) ends =
+    rw (none.0, none.1, none.2) (enclosed_none P Short rest can ends)
+items_ended P Short plain tokens rest list comma can (inr some) ends =
+    rw some.1 (enclosed_trailing P Short plain tokens (Sign Comma ∷ rest) rest list can some.0 refl ends)
+
+-- an item is refused
+pub items_err :
+    {X T : Type 0} (P : Phrase Token T) (Short : List T → Type 0) (plain : X → T) (tokens rest : List Token)
+    (list : List X) (comma : Bool) (e : Refusal) → Enclosable P Short → Room Short plain list → Items_read P
+    Short plain tokens list comma rest → (first rest ≡ Some (Sign Close) → ⊥) → Refuses P rest e → Refuses
+    (enclosed P Short) tokens e
+items_err P Short plain tokens rest list comma e can room (inl none) goes refuses =
+    rw none.2 (enclosed_err_first P Short rest e can goes refuses)
+items_err P Short plain tokens rest list comma e can room (inr some) goes refuses =
+    enclosed_err P Short plain tokens (Sign Comma ∷ rest) rest list e can room some.0 refl goes refuses
+
+-- what is left behind an item and a comma is shorter
+pub comma_shorter :
+    {T : Type 0} (P : Phrase Token T) (tokens found after : List Token) (t : T) → Taken P tokens t found → found
+    ≡ Sign Comma ∷ after → length after < length tokens
+comma_shorter P tokens found after t taken here =
+    omega (arith, ap length taken.whole, length-append (P.spell t) found, ap length here)
 
 -- any number of a phrase
 

@@ -1,5 +1,6 @@
 -- The productions of parameters.
-use Rattle.std.proofs.Common.{◌≡◌, ℕ, ◌<◌, ◌≤◌, List, [], ◌∷◌, ◌++◌, Option, Some, None, length, refl, sym, ap, ◌∙◌, subst, arith, map}
+use Rattle.std.proofs.Common.{◌≡◌, ℕ, ◌<◌, ◌≤◌, List, [], ◌∷◌, ◌++◌, Option, Some, None, Bool}
+use Rattle.std.proofs.Common.{length, refl, sym, ap, ◌∙◌, subst, arith, map, inl, inr}
 use Rattle.std.proofs.lemmas.List.{length-append, length-map}
 use Rattle.text_phrases.specs.Limits.{Limits, syntax}
 use Rattle.text_phrases.specs.Phrase.{first, Phrase, Refused}
@@ -21,7 +22,7 @@ use Rattle.exo_reader.specs.Parts.{dims, maybe_dims, type_name, FollowsMemory, m
 use Rattle.exo_reader.specs.Views.{plain_parameter}
 use Rattle.exo_reader.specs.declared.source.SourceParam.{SourceParam}
 use Rattle.exo_reader.proofs.Parts.{no_name, zero, dims_zero}
-use Rattle.exo_reader.proofs.Lists.{Enclosable, Enclosed_read, Room, enclosed_full, enclosed_wrong}
+use Rattle.exo_reader.proofs.Lists.{Enclosable, Enclosed_read, Items_read, Room, enclosed_full, enclosed_wrong}
 
 -- types
 
@@ -149,3 +150,12 @@ many_parameters tokens rest after list (Syntax last) begun comma unclosed full r
 many_parameters tokens rest after list Memory begun comma unclosed full refuses = absurd refuses
 many_parameters tokens rest after list (TooDeep last) begun comma unclosed full refuses = absurd refuses
 many_parameters tokens rest after list (TooLarge last) begun comma unclosed full refuses = absurd refuses
+
+pub full_parameters :
+    (tokens rest : List Token) (list : List SourceParam) (comma : Bool) (e : Refusal) → Items_read parameter
+    FewParameters plain_parameter tokens list comma rest → (first rest ≡ Some (Sign Close) → ⊥) → 32 ≤ length
+    list → RefusesItem rest e → Refuses parameters tokens e
+full_parameters tokens rest list comma e (inl none) unclosed full refuses =
+    absurd (let few : length list ≡ 0 = ap length none.0 in omega (arith, full, few))
+full_parameters tokens rest list comma e (inr some) unclosed full refuses =
+    many_parameters tokens (Sign Comma ∷ rest) rest list e some.0 refl unclosed full refuses

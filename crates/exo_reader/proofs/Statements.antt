@@ -23,6 +23,11 @@ use Rattle.exo_reader.proofs.Parts.{name_fits, no_name, zero, control_zero, datu
 nests : (limits : Limits) (nesting : ℕ) → nesting < 24 → Nests limits nesting
 nests limits nesting less = keeps_all limits less tt tt
 
+-- the token behind the first one
+abbrev behind_name : List Token → Option Token
+behind_name (a ∷ b ∷ more) = Some b
+behind_name other = None
+
 -- `pass`
 
 back_pass : (nesting : ℕ) (limits : Limits) (other : Statement) (x y : List Token) → Word w.Pass ∷ x ≡ spelling other ++ y → Back (exactly (NewLine ∷ [])) (λ _. pass) limits other x y
@@ -32,10 +37,10 @@ back_pass nesting limits (loop i low high a) x y equal = absurd (let e : Word w.
 back_pass nesting limits (allocate m kind ds k) x y equal = absurd (let e : Word w.Pass ≡ Name m = cc in cc)
 back_pass nesting limits (call m list b) x y equal = absurd (let e : Word w.Pass ≡ Name m = cc in cc)
 back_pass nesting limits (configure m f e) x y equal = absurd (let e : Word w.Pass ≡ Name m = cc in cc)
-back_pass nesting limits (assign m [] e) x y equal = absurd (let e : Word w.Pass ≡ Name m = cc in cc)
-back_pass nesting limits (assign m (d ∷ ds) e) x y equal = absurd (let e : Word w.Pass ≡ Name m = cc in cc)
-back_pass nesting limits (reduce m [] e) x y equal = absurd (let e : Word w.Pass ≡ Name m = cc in cc)
-back_pass nesting limits (reduce m (d ∷ ds) e) x y equal = absurd (let e : Word w.Pass ≡ Name m = cc in cc)
+back_pass nesting limits (assign m ds e) x y equal =
+    absurd (let e : Some (Word w.Pass) ≡ Some (Name m) = ap first equal in cc (e))
+back_pass nesting limits (reduce m ds e) x y equal =
+    absurd (let e : Some (Word w.Pass) ≡ Some (Name m) = ap first equal in cc (e))
 back_pass nesting limits (view m k cs) x y equal = absurd (let e : Word w.Pass ≡ Name m = cc in cc)
 
 pub step_pass : (nesting : ℕ) (after : List Token) → Step (statement nesting) (exactly (NewLine ∷ [])) (λ _. pass) (Word w.Pass ∷ after) after
@@ -94,9 +99,11 @@ back_allocation nesting limits n (allocate m kind ds k) x y fits equal =
 back_allocation nesting limits n (call m list b) x y fits equal = absurd (let e : Sign Colon ≡ Sign Open = cc in cc)
 back_allocation nesting limits n (configure m f e) x y fits equal = absurd (let e : Sign Colon ≡ Sign Dot = cc in cc)
 back_allocation nesting limits n (assign m [] e) x y fits equal = absurd (let e : Sign Colon ≡ Sign Assign = cc in cc)
-back_allocation nesting limits n (assign m (d ∷ ds) e) x y fits equal = absurd (let e : Sign Colon ≡ Sign OpenBracket = cc in cc)
+back_allocation nesting limits n (assign m (d ∷ ds) e) x y fits equal =
+    absurd (let e : Some (Sign Colon) ≡ Some (Sign OpenBracket) = ap behind_name equal in cc (e))
 back_allocation nesting limits n (reduce m [] e) x y fits equal = absurd (let e : Sign Colon ≡ Sign Reduce = cc in cc)
-back_allocation nesting limits n (reduce m (d ∷ ds) e) x y fits equal = absurd (let e : Sign Colon ≡ Sign OpenBracket = cc in cc)
+back_allocation nesting limits n (reduce m (d ∷ ds) e) x y fits equal =
+    absurd (let e : Some (Sign Colon) ≡ Some (Sign OpenBracket) = ap behind_name equal in cc (e))
 back_allocation nesting limits n (view m k cs) x y fits equal = absurd (let e : Sign Colon ≡ Sign Assign = cc in cc)
 
 pub step_allocation : (nesting : ℕ) (n : List ℕ) (after : List Token) → IsShortName n → Step (statement nesting) (Alloc1) (allocation_of n) (Name n ∷ Sign Colon ∷ after) after
@@ -132,9 +139,11 @@ back_calling nesting limits n (call m list b) x y fits equal =
     record { tree = ((list, b), tt); fits = (fits.1, tt); is = ap (λ q. call q list b) same; equal = (let r : x ≡ (arguments.spell (list, b) ++ (Sign Close ∷ NewLine ∷ [])) ++ y = cc in r); follows = tt }
 back_calling nesting limits n (configure m f e) x y fits equal = absurd (let e : Sign Open ≡ Sign Dot = cc in cc)
 back_calling nesting limits n (assign m [] e) x y fits equal = absurd (let e : Sign Open ≡ Sign Assign = cc in cc)
-back_calling nesting limits n (assign m (d ∷ ds) e) x y fits equal = absurd (let e : Sign Open ≡ Sign OpenBracket = cc in cc)
+back_calling nesting limits n (assign m (d ∷ ds) e) x y fits equal =
+    absurd (let e : Some (Sign Open) ≡ Some (Sign OpenBracket) = ap behind_name equal in cc (e))
 back_calling nesting limits n (reduce m [] e) x y fits equal = absurd (let e : Sign Open ≡ Sign Reduce = cc in cc)
-back_calling nesting limits n (reduce m (d ∷ ds) e) x y fits equal = absurd (let e : Sign Open ≡ Sign OpenBracket = cc in cc)
+back_calling nesting limits n (reduce m (d ∷ ds) e) x y fits equal =
+    absurd (let e : Some (Sign Open) ≡ Some (Sign OpenBracket) = ap behind_name equal in cc (e))
 back_calling nesting limits n (view m k cs) x y fits equal = absurd (let e : Sign Open ≡ Sign Assign = cc in cc)
 
 pub step_calling : (nesting : ℕ) (n : List ℕ) (after : List Token) → IsShortName n → Step (statement nesting) (Call1) (calling_of n) (Name n ∷ Sign Open ∷ after) after
@@ -170,9 +179,11 @@ back_configuring nesting limits n (configure m f e) x y fits equal =
     let same : m ≡ n = cc in
     record { tree = ((f, tt), (e, tt)); fits = ((fits.1, tt), (fits.2, tt)); is = ap (λ q. configure q f e) same; equal = (let r : x ≡ (Name f ∷ Sign Assign ∷ (control.spell e ++ (NewLine ∷ []))) ++ y = cc in r); follows = tt }
 back_configuring nesting limits n (assign m [] e) x y fits equal = absurd (let e : Sign Dot ≡ Sign Assign = cc in cc)
-back_configuring nesting limits n (assign m (d ∷ ds) e) x y fits equal = absurd (let e : Sign Dot ≡ Sign OpenBracket = cc in cc)
+back_configuring nesting limits n (assign m (d ∷ ds) e) x y fits equal =
+    absurd (let e : Some (Sign Dot) ≡ Some (Sign OpenBracket) = ap behind_name equal in cc (e))
 back_configuring nesting limits n (reduce m [] e) x y fits equal = absurd (let e : Sign Dot ≡ Sign Reduce = cc in cc)
-back_configuring nesting limits n (reduce m (d ∷ ds) e) x y fits equal = absurd (let e : Sign Dot ≡ Sign OpenBracket = cc in cc)
+back_configuring nesting limits n (reduce m (d ∷ ds) e) x y fits equal =
+    absurd (let e : Some (Sign Dot) ≡ Some (Sign OpenBracket) = ap behind_name equal in cc (e))
 back_configuring nesting limits n (view m k cs) x y fits equal = absurd (let e : Sign Dot ≡ Sign Assign = cc in cc)
 
 pub step_configuring : (nesting : ℕ) (n : List ℕ) (after : List Token) → IsShortName n → Step (statement nesting) (Config1) (configuring_of n) (Name n ∷ Sign Dot ∷ after) after
@@ -216,9 +227,11 @@ back_equation nesting limits n (configure m f e) x y fits equal = absurd (let e 
 back_equation nesting limits n (assign m [] e) x y fits equal =
     let same : m ≡ n = cc in
     record { tree = (value e, tt); fits = (fits.2, tt); is = ap (λ k. assign k [] e) same; equal = (let q : x ≡ (datum.spell e ++ (NewLine ∷ [])) ++ y = cc in q); follows = tt }
-back_equation nesting limits n (assign m (d ∷ ds) e) x y fits equal = absurd (let e : Sign Assign ≡ Sign OpenBracket = cc in cc)
+back_equation nesting limits n (assign m (d ∷ ds) e) x y fits equal =
+    absurd (let e : Some (Sign Assign) ≡ Some (Sign OpenBracket) = ap behind_name equal in cc (e))
 back_equation nesting limits n (reduce m [] e) x y fits equal = absurd (let e : Sign Assign ≡ Sign Reduce = cc in cc)
-back_equation nesting limits n (reduce m (d ∷ ds) e) x y fits equal = absurd (let e : Sign Assign ≡ Sign OpenBracket = cc in cc)
+back_equation nesting limits n (reduce m (d ∷ ds) e) x y fits equal =
+    absurd (let e : Some (Sign Assign) ≡ Some (Sign OpenBracket) = ap behind_name equal in cc (e))
 back_equation nesting limits n (view m k cs) x y fits equal =
     let same : m ≡ n = cc in
     record { tree = (window k cs, tt); fits = (fits.1, tt); is = ap (λ q. view q k cs) same; equal = (let q : x ≡ (right.spell (window k cs) ++ (NewLine ∷ [])) ++ y = cc in q); follows = tt }
@@ -444,10 +457,10 @@ back_if nesting limits (loop i low high a) x y fits unelse equal = absurd (let e
 back_if nesting limits (allocate m kind ds k) x y fits unelse equal = absurd (let e : Word w.If ≡ Name m = cc in cc)
 back_if nesting limits (call m list b) x y fits unelse equal = absurd (let e : Word w.If ≡ Name m = cc in cc)
 back_if nesting limits (configure m f e) x y fits unelse equal = absurd (let e : Word w.If ≡ Name m = cc in cc)
-back_if nesting limits (assign m [] e) x y fits unelse equal = absurd (let e : Word w.If ≡ Name m = cc in cc)
-back_if nesting limits (assign m (d ∷ ds) e) x y fits unelse equal = absurd (let e : Word w.If ≡ Name m = cc in cc)
-back_if nesting limits (reduce m [] e) x y fits unelse equal = absurd (let e : Word w.If ≡ Name m = cc in cc)
-back_if nesting limits (reduce m (d ∷ ds) e) x y fits unelse equal = absurd (let e : Word w.If ≡ Name m = cc in cc)
+back_if nesting limits (assign m ds e) x y fits unelse equal =
+    absurd (let e : Some (Word w.If) ≡ Some (Name m) = ap first equal in cc (e))
+back_if nesting limits (reduce m ds e) x y fits unelse equal =
+    absurd (let e : Some (Word w.If) ≡ Some (Name m) = ap first equal in cc (e))
 back_if nesting limits (view m k cs) x y fits unelse equal = absurd (let e : Word w.If ≡ Name m = cc in cc)
 
 pub step_if : (nesting : ℕ) (tokens after : List Token) → nesting < 24 → tokens ≡ Word w.If ∷ after → Step (statement nesting) (If1 (nesting + 1)) branch_of tokens after
@@ -512,10 +525,10 @@ back_for nesting limits (loop i low high a) x y fits equal =
 back_for nesting limits (allocate m kind ds k) x y fits equal = absurd (let e : Word w.For ≡ Name m = cc in cc)
 back_for nesting limits (call m list b) x y fits equal = absurd (let e : Word w.For ≡ Name m = cc in cc)
 back_for nesting limits (configure m f e) x y fits equal = absurd (let e : Word w.For ≡ Name m = cc in cc)
-back_for nesting limits (assign m [] e) x y fits equal = absurd (let e : Word w.For ≡ Name m = cc in cc)
-back_for nesting limits (assign m (d ∷ ds) e) x y fits equal = absurd (let e : Word w.For ≡ Name m = cc in cc)
-back_for nesting limits (reduce m [] e) x y fits equal = absurd (let e : Word w.For ≡ Name m = cc in cc)
-back_for nesting limits (reduce m (d ∷ ds) e) x y fits equal = absurd (let e : Word w.For ≡ Name m = cc in cc)
+back_for nesting limits (assign m ds e) x y fits equal =
+    absurd (let e : Some (Word w.For) ≡ Some (Name m) = ap first equal in cc (e))
+back_for nesting limits (reduce m ds e) x y fits equal =
+    absurd (let e : Some (Word w.For) ≡ Some (Name m) = ap first equal in cc (e))
 back_for nesting limits (view m k cs) x y fits equal = absurd (let e : Word w.For ≡ Name m = cc in cc)
 
 pub step_for : (nesting : ℕ) (tokens after : List Token) → nesting < 24 → tokens ≡ Word w.For ∷ after → Step (statement nesting) (For1 (nesting + 1)) loop_of tokens after
@@ -690,9 +703,6 @@ apart nesting = record {
   next = λ limits s y fits. no_else s y;
   last = dedent_no_else;
 }
-
-pub body1 : (nesting : ℕ) → Joint (some_of (statement nesting) (Is Dedent)) (exactly (Dedent ∷ []))
-body1 nesting = record { may = record { may = λ limits q y fits follows. refl }; some = tt; fits = λ limits. tt }
 
 some_tokens : (s : Statement) → 1 ≤ length (spelling s)
 some_tokens pass = omega arith

@@ -7,15 +7,15 @@ use Rattle.text_phrases.specs.Phrase.{first, Phrase}
 use Rattle.text_phrases.specs.Text.{FaultAt, Faults}
 use Rattle.text_phrases.specs.declared.Refusal.{Refusal}
 use Rattle.text_phrases.specs.declared.Refusal.TheVariants as r
-use Rattle.text_lexer.specs.Layout.{lexed, line_lexed, token_of, place_of, end_place}
+use Rattle.text_lexer.specs.Layout.{lexed, token_of, place_of, end_place}
 use Rattle.text_lexer.specs.declared.place.Place.{Place}
+use Rattle.text_lexer.specs.declared.place.Placed.{Placed}
 use Rattle.text_lexer.specs.declared.token.Token.{Token}
 use Rattle.text_lexer.specs.declared.token.Token.TheVariants.{Sign, NewLine, Dedent}
 use Rattle.text_lexer.specs.declared.token.Sign.TheVariants.{Colon}
 use Rattle.exo_reader.specs.Source.{Item}
 use Rattle.exo_reader.specs.Items.{item}
 use Rattle.exo_reader.specs.Texts.{tokens_of, places_of, EndsHeader, IsAtEnd, first_kind, IsKindBy, IsSyntaxKind, IsKind, IsPlaced, IsFault, IsRefusal, IsLeft, SaysAt, Says}
-use Rattle.exo_reader.specs.Strings.{line_tokens_of, line_places_of}
 use Rattle.exo_reader.specs.declared.unit.ReadKind.{ReadKind}
 use Rattle.exo_reader.specs.declared.unit.ReadKind.TheVariants as k
 use Rattle.exo_reader.specs.declared.unit.ReadError.{ReadError}
@@ -132,8 +132,22 @@ says_syntax tokens places last kind e sliced same placed =
 pub places_more : (text : List ℕ) → length (places_of text) ≡ length (tokens_of text) + 1
 places_more text = omega (arith, length-append (map place_of (lexed text)) (end_place text ∷ []), length-map (lexed text) place_of, length-map (lexed text) token_of)
 
-pub line_places_more : (text : List ℕ) → length (line_places_of text) ≡ length (line_tokens_of text) + 1
-line_places_more text = omega (arith, length-append (map place_of (line_lexed text)) (end_place text ∷ []), length-map (line_lexed text) place_of, length-map (line_lexed text) token_of)
+pub one_place_more :
+    (laid : List Placed) (end : Place) (tokens read : List Token) (places listed : List Place) → read ≡ tokens →
+    listed ≡ places → tokens ≡ map token_of laid → places ≡ map place_of laid ++ (end ∷ []) → length listed ≡
+    length read + 1
+one_place_more laid end tokens read places listed same alike tokens_are places_are =
+    omega (
+      arith,
+      ap length same,
+      ap length alike,
+      ap length tokens_are,
+      ap length places_are,
+      length-append
+          (map place_of laid) (end ∷ []),
+      length-map laid place_of,
+      length-map laid token_of,
+    )
 
 -- the same of tokens and places in memory
 pub refusal_in : {T : Type 0} (kind : Phrase Token T) (tokens read sliced : List Token) (places listed : List Place) (refusal : Refusal) (e : ReadError) → read ≡ tokens → sliced ≡ tokens → listed ≡ places → Faults kind read refusal → Says sliced listed refusal e → IsRefusal kind tokens places e.kind e

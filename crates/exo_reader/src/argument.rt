@@ -76,28 +76,25 @@ pub fn read_coordinates(alloc: Global, tokens: &[Token]) -> Result<(NotedCoords,
     ensures noted { IfOk result (λ x. AreNoted x.0) }
     ensures reads { Reads coordinates tokens.now (λ x. map plain_coordinate x.0.items.items) (λ x. x.1.now) result }
 {
-    let mut items = Vec::new(alloc);
-    let (first, behind_first) = read_coordinate(alloc, tokens)?;
-    let mut depth = first.depth;
-    let mut spans = first.spans;
-    let mut rest = behind_first;
-    items.push(first.coord)?;
-    'more: while let Some(after) = behind(rest, Fixed::Sign(Sign::Comma)) {
-        if items.len() >= DIMENSIONS {
-            return Err(Refusal::TooLong(rest.len()));
-        }
-        let (next, found) = read_coordinate(alloc, after)?;
-        depth = depth.max(next.depth);
-        spans |= next.spans;
-        items.push(next.coord)?;
-        rest = found;
-    }
-    let coords = NotedCoords {
-        items,
-        depth,
-        spans,
+    let mut coords = NotedCoords {
+        items: Vec::new(alloc),
+        depth: 0,
+        spans: false,
     };
-    Ok((coords, rest))
+    let mut rest = tokens;
+    'more: loop {
+        let (next, found) = read_coordinate(alloc, rest)?;
+        coords.depth = coords.depth.max(next.depth);
+        coords.spans |= next.spans;
+        coords.items.push(next.coord)?;
+        let Some(after) = behind(found, Fixed::Sign(Sign::Comma)) else {
+            return Ok((coords, found));
+        };
+        if coords.items.len() >= DIMENSIONS {
+            return Err(Refusal::TooLong(found.len()));
+        }
+        rest = after;
+    }
 }
 
 /// The first expression of a coordinate.
@@ -230,31 +227,22 @@ pub fn read_arguments(alloc: Global, tokens: &[Token]) -> Result<(SourceArgs, &[
     ensures { Reads arguments tokens.now (λ x. plain_arguments x.0) (λ x. x.1.now) result }
 {
     let mut items = Vec::new(alloc);
-    if stands_first(tokens, Fixed::Sign(Sign::Close)) {
-        let list = SourceArgs {
-            items,
-            trailing: false,
-        };
-        return Ok((list, tokens));
-    }
-    let (first, behind_first) = read_argument(alloc, tokens)?;
-    items.push(first)?;
-    let mut rest = behind_first;
-    'more: while let Some(after) = behind(rest, Fixed::Sign(Sign::Comma)) {
-        if stands_first(after, Fixed::Sign(Sign::Close)) {
-            let list = SourceArgs {
-                items,
-                trailing: true,
-            };
-            return Ok((list, after));
-        }
-        let (argument, found) = read_argument(alloc, after)?;
+    let mut rest = tokens;
+    let mut trailing = false;
+    'more: while !stands_first(rest, Fixed::Sign(Sign::Close)) {
+        let (argument, found) = read_argument(alloc, rest)?;
         items.push(argument)?;
-        rest = found;
+        let Some(after) = behind(found, Fixed::Sign(Sign::Comma)) else {
+            return Ok((
+                SourceArgs {
+                    items,
+                    trailing: false,
+                },
+                found,
+            ));
+        };
+        rest = after;
+        trailing = true;
     }
-    let list = SourceArgs {
-        items,
-        trailing: false,
-    };
-    Ok((list, rest))
+    Ok((SourceArgs { items, trailing }, rest))
 }

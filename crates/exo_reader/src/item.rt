@@ -14,7 +14,7 @@ use crate::part::{read_control_and, read_kind, read_name_and};
 use crate::source::{SourceAttribute, SourceDef, SourceField, SourceItem, SourceValue};
 use crate::statement::read_body;
 use std::alloc::Global;
-use text_expressions::front::{Fixed, behind, expect_all, read_literal, stands_first};
+use text_expressions::front::{Fixed, behind, expect_all, read_literal};
 use text_expressions::source::SourceExpr;
 use text_lexer::text::Text;
 use text_lexer::token::{Decorator, Sign, Token, Word};
@@ -108,16 +108,15 @@ fn read_fields(alloc: Global, tokens: &[Token]) -> Result<(Vec<SourceField>, &[T
     ensures { Reads fields tokens.now (λ x. (map plain_field x.0.items, tt)) (λ x. x.1.now) result }
 {
     let mut list = Vec::new(alloc);
-    let (first, behind_first) = read_field(tokens)?;
-    list.push(first)?;
-    let mut rest = behind_first;
-    'more: while !stands_first(rest, Fixed::Dedent) {
+    let mut rest = tokens;
+    'more: loop {
         let (next, after) = read_field(rest)?;
         list.push(next)?;
+        if let Some(behind_block) = behind(after, Fixed::Dedent) {
+            return Ok((list, behind_block));
+        }
         rest = after;
     }
-    let behind_block = expect_all(rest, &[Fixed::Dedent])?;
-    Ok((list, behind_block))
 }
 
 /// What comes behind `@config`.
@@ -165,16 +164,15 @@ fn read_attributes(
     ensures { Reads attributes tokens.now (λ x. (map plain_attribute x.0.items, tt)) (λ x. x.1.now) result }
 {
     let mut list = Vec::new(alloc);
-    let (first, behind_first) = read_attribute(alloc, tokens)?;
-    list.push(first)?;
-    let mut rest = behind_first;
-    'more: while !stands_first(rest, Fixed::Dedent) {
+    let mut rest = tokens;
+    'more: loop {
         let (next, after) = read_attribute(alloc, rest)?;
         list.push(next)?;
+        if let Some(behind_block) = behind(after, Fixed::Dedent) {
+            return Ok((list, behind_block));
+        }
         rest = after;
     }
-    let behind_block = expect_all(rest, &[Fixed::Dedent])?;
-    Ok((list, behind_block))
 }
 
 /// What comes behind `@memory`.

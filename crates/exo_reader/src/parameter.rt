@@ -54,34 +54,25 @@ pub fn read_parameters(alloc: Global, tokens: &[Token]) -> Result<(SourceParams,
     ensures { Reads parameters tokens.now (λ x. plain_parameters x.0) (λ x. x.1.now) result }
 {
     let mut items = Vec::new(alloc);
-    if stands_first(tokens, Fixed::Sign(Sign::Close)) {
-        let params = SourceParams {
-            items,
-            trailing: false,
-        };
-        return Ok((params, tokens));
-    }
-    let (first, behind_first) = read_parameter(alloc, tokens)?;
-    items.push(first)?;
-    let mut rest = behind_first;
-    'more: while let Some(after) = behind(rest, Fixed::Sign(Sign::Comma)) {
-        if stands_first(after, Fixed::Sign(Sign::Close)) {
-            let params = SourceParams {
-                items,
-                trailing: true,
-            };
-            return Ok((params, after));
-        }
+    let mut rest = tokens;
+    let mut trailing = false;
+    'more: while !stands_first(rest, Fixed::Sign(Sign::Close)) {
         if items.len() >= PARAMETERS {
-            return Err(refuse_item(after));
+            return Err(refuse_item(rest));
         }
-        let (param, found) = read_parameter(alloc, after)?;
+        let (param, found) = read_parameter(alloc, rest)?;
         items.push(param)?;
-        rest = found;
+        let Some(after) = behind(found, Fixed::Sign(Sign::Comma)) else {
+            return Ok((
+                SourceParams {
+                    items,
+                    trailing: false,
+                },
+                found,
+            ));
+        };
+        rest = after;
+        trailing = true;
     }
-    let params = SourceParams {
-        items,
-        trailing: false,
-    };
-    Ok((params, rest))
+    Ok((SourceParams { items, trailing }, rest))
 }

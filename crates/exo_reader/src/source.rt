@@ -35,10 +35,17 @@ pub struct SourceWindow {
 }
 
 /// What stands where a type must stand. The word `stride` is a type there, and no name elsewhere.
-#[derive(Drop)]
 pub enum SourceKind {
     Stride,
     Named(Text),
+}
+
+impl Drop for SourceKind {
+    fn drop(self) {
+        match self {
+            Self::Stride | Self::Named(_) => {}
+        }
+    }
 }
 
 /// A statement as it is written. A list of dimensions or indices is empty where none are written.

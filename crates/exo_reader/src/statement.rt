@@ -16,7 +16,7 @@ use crate::part::{
 use crate::source::{SourceArg, SourceStmt};
 use std::alloc::Global;
 use text_expressions::expression::read_control;
-use text_expressions::front::{Fixed, behind, expect_all, is_short, stands_first};
+use text_expressions::front::{Fixed, behind, expect_all, is_short};
 use text_expressions::source::SourceExpr;
 use text_lexer::text::Text;
 use text_lexer::token::{Sign, Token, Word, next};
@@ -315,14 +315,13 @@ pub fn read_body(
     ensures { Reads (body nesting) tokens.now (λ x. (map plain_statement x.0.items, tt)) (λ x. x.1.now) result }
 {
     let mut inside = Vec::new(alloc);
-    let (first, behind_first) = read_statement(alloc, tokens, nesting)?;
-    inside.push(first)?;
-    let mut rest = behind_first;
-    'more: while !stands_first(rest, Fixed::Dedent) {
+    let mut rest = tokens;
+    'more: loop {
         let (statement, after) = read_statement(alloc, rest, nesting)?;
         inside.push(statement)?;
+        if let Some(behind_block) = behind(after, Fixed::Dedent) {
+            return Ok((inside, behind_block));
+        }
         rest = after;
     }
-    let behind_block = expect_all(rest, &[Fixed::Dedent])?;
-    Ok((inside, behind_block))
 }

@@ -1,9 +1,7 @@
 use Rattle.std.proofs.Common.{length, ◌+◌, ◌*◌}
-use Rattle.text_lexer.specs.declared.token.Token.TheVariants.{Dedent}
-use Rattle.exo_reader.specs.Parts.{Is}
 use Rattle.exo_reader.specs.Statements.{statement}
 use Rattle.exo_reader.specs.Views.{plain_statement}
-use Rattle.exo_reader.proofs.Lists.{Some_read}
+use Rattle.exo_reader.proofs.Lists.{Lines_read}
 use Rattle.exo_reader.proofs.statement.+statements.Given as goal
 
 abbrev pub decreases-read_statement : goal.decreases-read_statement
@@ -25,7 +23,7 @@ abbrev pub decreases-read_body : goal.decreases-read_body
 decreases-read_body l = 16 * length l.tokens.now + 2
 
 abbrev pub invariant-read_body-more : goal.invariant-read_body-more
-invariant-read_body-more l = Some_read (statement l.nesting) (Is Dedent) plain_statement l.fn.tokens l.inside.items l.rest
+invariant-read_body-more l = Lines_read (statement l.nesting) plain_statement l.fn.tokens l.inside.items l.rest
 
 abbrev pub decreases-read_body-more : goal.decreases-read_body-more
 decreases-read_body-more l = length l.rest

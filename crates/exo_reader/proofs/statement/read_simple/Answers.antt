@@ -1,4 +1,4 @@
-use Rattle.std.proofs.Common.{◌≡◌, false, true}
+use Rattle.std.proofs.Common.{◌≡◌, false, true, sym}
 use Rattle.exo_reader.proofs.Statements.{statement_start, statement_end, statement_long}
 use Rattle.exo_reader.proofs.statement.read_simple.Goals as goal
 
@@ -10,3 +10,7 @@ returns-in_default-token c = λ nesting. statement_start _ _ _ _ c.in-Some.ensur
 
 pub returns-else-is_short : goal.returns-else-is_short
 returns-else-is_short c = λ nesting. statement_long _ _ _ _ (rw c.in-Name.is at c.in-Some.ensures) (λ short. let h : false ≡ true = c.if-is_short.ensures.1 short in cc)
+
+pub returns-then-is_short : goal.returns-then-is_short
+returns-then-is_short c =
+    λ nesting. rw (c.in-Some.ensures, c.in-Name.is, sym c.in_ok-copy-in-Name.ensures) (c.read_named.ensures nesting)
