@@ -1,7 +1,7 @@
 -- From a way to the end of a body to what is live at its beginning.
 use Rattle.std.proofs.Common.{◌≡◌, ◌<◌, ℕ, zero, suc, Bool, true, false, ◌&&◌, ◌||◌, nat_lt, List, [], ◌∷◌, length}
 use Rattle.std.proofs.Common.{Option, Some, None, refl, sym, ap, ap₂, ◌∙◌, subst, arith}
-use Rattle.std.specs.Prelude.{not}
+use Rattle.std.specs.Prelude.{not, replicate}
 use Rattle.exo_tree.specs.Tree.{Block, Procedure}
 use Rattle.exo_tree.specs.Places.{Branch, Main, Else, Step, Path, Opened, opened_in, opened}
 use Rattle.meaning_laws.specs.Live.{live_behind}
@@ -16,6 +16,7 @@ use Rattle.config_live.specs.Tables.{reads_first, writes_surely, calls_in}
 use Rattle.config_live.specs.Ways.{IsStart}
 use Rattle.config_live.specs.Places.{place_in, live_from, Reaches, Arrives}
 use Rattle.config_live.proofs.Truths.{and_all}
+use Rattle.config_live.proofs.Ways.{none_in}
 use Rattle.config_live.proofs.Units.{behind_same, surely_same, by_table}
 
 beyond : (s : List Bool) (f : ℕ) → nat_lt f (length s) ≡ false → contains s f ≡ false
@@ -147,4 +148,22 @@ module _ (ps : List Procedure) (n : ℕ) (table : LiveTable) (f : ℕ)
       → contains new.written f ≡ surely_from ps b path side f
   written_is b path side found old new s l e h =
       written_there (place_in b path side) old new h.0 s l
+      (subst (λ z. Reaches table (place_in b path side) z old new [] h.0) e h.1)
+
+  unwritten_there : (x : Option Opened) (old new : Way) (has : List ℕ)
+      → Reaches table x false old new [] has
+      → false
+      ≡ elim x as (λ x. Bool) [ None ↦ false | Some o ↦ surely_behind (unit_surely ps) f o.around ]
+  unwritten_there None old new has h = refl
+  unwritten_there (Some o) old new has h = absurd (cc (h.0))
+
+  -- nothing is, where the place is not there
+  pub unwritten_is : (b : Block) (path : Path) (side : Side) (found : Bool) (old new : Way)
+      (set : List Bool) → set ≡ replicate n false → found ≡ false
+      → Arrives table (place_in b path side) found old new
+      → contains set f ≡ surely_from ps b path side f
+  unwritten_is b path side found old new set none e h =
+      ap (λ s. contains s f) none
+      ∙ none_in n f
+      ∙ unwritten_there (place_in b path side) old new h.0
       (subst (λ z. Reaches table (place_in b path side) z old new [] h.0) e h.1)

@@ -1,8 +1,10 @@
 -- Lists of fields, one part after the other.
 use Rattle.std.proofs.Common.{◌≡◌, ◌==◌, ◌<◌, ◌≤◌, ◌+◌, ℕ, Bool, false, ◌||◌, List, [], ◌∷◌, ◌++◌, length, get_or}
-use Rattle.std.proofs.Common.{sym, ap, ◌∙◌, subst}
-use Rattle.std.proofs.lemmas.List.{drop_all}
+use Rattle.std.proofs.Common.{sym, ap, ◌∙◌, subst, take, add-one}
+use Rattle.std.proofs.lemmas.List.{drop_all, map-append, take_all}
+use Rattle.std.proofs.Math.Seq.{take-suc}
 use Rattle.std.specs.Prelude.{map, drop}
+use Rattle.exo_tree.specs.declared.number.FieldId.{FieldId}
 use Rattle.config_state.proofs.Sets.{drop_item}
 use Rattle.config_laws.specs.FieldRule.{is_listed}
 use Rattle.config_live.specs.Listed.{Listed}
@@ -64,3 +66,20 @@ items_done plain whole none xs k list h =
     listed_as (λ f. false) (whole (map plain (drop k xs))) list list
     (λ f. sym (none f) ∙ ap (λ ys. whole (map plain ys) f) (sym (drop_all k xs h)))
     (listed_none list)
+
+-- ---- numbers of fields
+
+-- so many numbers, and the next one
+pub numbers_on : (fields : List FieldId) (k : ℕ) (d : FieldId) (old new : List ℕ) → k < length fields
+    → old ≡ map (λ (f : FieldId). f.0) (take k fields) → new ≡ old ++ (get_or fields k d).0 ∷ []
+    → new ≡ map (λ (f : FieldId). f.0) (take (k + 1) fields)
+numbers_on fields k d old new l h e =
+    e
+    ∙ ap (λ ns. ns ++ (get_or fields k d).0 ∷ []) h
+    ∙ sym (ap (λ n. map (λ (f : FieldId). f.0) (take n fields)) (add-one k)
+    ∙ ap (map (λ (f : FieldId). f.0)) (take-suc fields k d l)
+    ∙ map-append (λ (f : FieldId). f.0) (take k fields) (get_or fields k d ∷ []))
+
+pub numbers_all : (fields : List FieldId) (k : ℕ) (ns : List ℕ) → length fields ≤ k
+    → ns ≡ map (λ (f : FieldId). f.0) (take k fields) → ns ≡ map (λ (f : FieldId). f.0) fields
+numbers_all fields k ns l h = h ∙ ap (map (λ (f : FieldId). f.0)) (take_all k fields l)

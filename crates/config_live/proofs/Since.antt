@@ -1,7 +1,7 @@
 -- The fields of steps, one after the other.
 use Rattle.std.proofs.Common.{◌≡◌, ◌==◌, ◌<◌, ◌+◌, ℕ, zero, suc, Bool, true, false, ◌&&◌, ◌||◌, if◌then◌else◌}
 use Rattle.std.proofs.Common.{List, [], ◌∷◌, ◌++◌, length, get_or, Option, Some, None, refl, sym, ap, ◌∙◌, subst, arith}
-use Rattle.std.specs.Prelude.{not, drop, map, slice_get, replicate}
+use Rattle.std.specs.Prelude.{not, drop, map, option_map, slice_get, replicate}
 use Rattle.exo_tree.specs.Tree.{Block, Procedure}
 use Rattle.exo_tree.specs.Places.{Path}
 use Rattle.config_state.specs.FieldSets.{contains, Marked, fields_where}
@@ -10,8 +10,9 @@ use Rattle.config_laws.specs.Differing.{parent_in, step_fields, fields_since, fr
 use Rattle.config_laws.specs.Differing as law
 use Rattle.config_laws.specs.FieldRule.{Side, is_listed, not_again, surely_from, fields_at_end}
 use Rattle.config_live.specs.declared.origins.Origin.{Origin}
-use Rattle.config_live.specs.Origins.{origin}
+use Rattle.config_live.specs.Origins.{of_parent, origin}
 use Rattle.config_live.proofs.Truths.{or_swap}
+use Rattle.config_live.proofs.Ways.{length_none, none_in}
 
 -- ---- a list gone over
 
@@ -224,16 +225,15 @@ origin_at [] k o l e = absurd (omega arith)
 origin_at (x ∷ xs) zero o l e = ap (λ z. Some (origin z)) (sym e)
 origin_at (x ∷ xs) (suc k) o l e = origin_at xs k o (omega arith) e
 
+-- the parent of a version that is there
+pub parent_at : (xs : List Origin) (k : ℕ) (o : Origin) (x : Option ℕ) → k < length xs
+    → o ≡ get_or xs k o → option_map of_parent o.parent ≡ x → x ≡ parent_in (map origin xs) k
+parent_at xs k o x l i e =
+    sym e
+    ∙ sym (ap (λ (z : Option law.Origin). elim z [ None ↦ None | Some o ↦ o.parent ])
+    (origin_at xs k o l i))
+
 -- ---- the fields of a set that was empty
-
-none_in : (n f : ℕ) → contains (replicate n false) f ≡ false
-none_in zero f = refl
-none_in (suc n) zero = refl
-none_in (suc n) (suc f) = none_in n f
-
-length_none : (n : ℕ) → length (replicate n false) ≡ n
-length_none zero = refl
-length_none (suc n) = ap suc (length_none n)
 
 pub in_order : (n : ℕ) (test : ℕ → Bool) (new : List Bool)
     → Marked test (replicate n false) new

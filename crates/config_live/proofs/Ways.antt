@@ -1,11 +1,11 @@
 -- Ways one after the other.
-use Rattle.std.proofs.Common.{◌≡◌, ℕ, Bool, false, ◌&&◌, ◌||◌, List, []}
+use Rattle.std.proofs.Common.{◌≡◌, ℕ, zero, suc, Bool, false, ◌&&◌, ◌||◌, List, [], length}
 use Rattle.std.proofs.Common.{refl, sym, ap, ap₂, ◌∙◌, arith}
-use Rattle.std.specs.Prelude.{not}
+use Rattle.std.specs.Prelude.{not, replicate}
 use Rattle.config_state.specs.FieldSets.{contains, Changed}
 use Rattle.config_laws.specs.FieldRule.{is_listed}
 use Rattle.config_live.specs.declared.way.Way.{Way}
-use Rattle.config_live.specs.Ways.{nothing, IsField, Went, Goes}
+use Rattle.config_live.specs.Ways.{nothing, IsField, Went, Goes, IsStart}
 use Rattle.config_live.proofs.Truths.{or_none, and_all, or_more, read_then, added_then, taken_back, up_to}
 
 pub still_field : (reads writes : ℕ → Bool) (old new : Way) (f : ℕ)
@@ -127,4 +127,25 @@ goes_up r v w old new had has e h = record {
     listed = h.went.listed;
   };
   added = λ f i. h.added f i ∙ ap (λ x. is_listed f had || x) (e f i);
+}
+
+-- ---- the beginning
+
+pub length_none : (n : ℕ) → length (replicate n false) ≡ n
+length_none zero = refl
+length_none (suc n) = ap suc (length_none n)
+
+pub none_in : (n f : ℕ) → contains (replicate n false) f ≡ false
+none_in zero f = refl
+none_in (suc n) zero = refl
+none_in (suc n) (suc f) = none_in n f
+
+pub start : (n : ℕ) (way : Way) → way.read ≡ replicate n false → way.written ≡ replicate n false
+    → way.reads ≡ [] → IsStart n way
+start n way r w e = record {
+  all_read = ap length r ∙ length_none n;
+  all_written = ap length w ∙ length_none n;
+  none_read = λ f l. ap (λ s. contains s f) r ∙ none_in n f;
+  none_written = λ f l. ap (λ s. contains s f) w ∙ none_in n f;
+  none_listed = e;
 }

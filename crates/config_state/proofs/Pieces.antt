@@ -1,14 +1,15 @@
 -- The block of a path, a step at a time, and the statements that are opened there.
-use Rattle.std.proofs.Common.{◌≡◌, ℕ, zero, suc, ◌+◌, ◌-◌, ◌<◌, ◌≤◌, List, [], ◌∷◌, length, take, drop, Option, Some, None, map, refl, ap, ap₂, sym, ◌∙◌, subst, arith}
-use Rattle.std.proofs.lemmas.Option.{slice_get-map}
+use Rattle.std.proofs.Common.{◌≡◌, ℕ, zero, suc, ◌+◌, ◌-◌, ◌<◌, ◌≤◌, List, [], ◌∷◌, length, take, drop, get_or}
+use Rattle.std.proofs.Common.{Option, Some, None, map, refl, ap, ap₂, sym, ◌∙◌, subst, arith, add-one, drop-cons}
 use Rattle.exo_tree.specs.declared.place.Step as declared
+use Rattle.exo_tree.specs.declared.place.Branch.TheVariants as which
 use Rattle.exo_tree.specs.PlainPlace.{step_taken}
-use Rattle.std.specs.Prelude.{Bool, true, false, nat_le, if◌then◌else◌, slice_get, slice_range, option_map, option_and_then, MatchOption}
+use Rattle.std.specs.Prelude.{slice_get, slice_range, option_map, option_and_then, MatchOption}
 use Rattle.exo_tree.specs.Tree.{Statement, If, For, Block, end, next, block, statements, Procedure, Program}
 use Rattle.exo_tree.specs.Context.{Context, Here, After, InLoop, InThen, InElse}
 use Rattle.exo_tree.specs.Places.{Branch, Main, Else, Step, Path, Opened, parted, past, into, opened_in, opened}
 use Rattle.exo_tree.specs.Branches.{branch_of}
-use Rattle.config_state.specs.Pieces.{piece_at, block_in}
+use Rattle.config_state.specs.Pieces.{piece_at}
 
 pub statements_are : (ss : List Statement) → statements (block ss) ≡ ss
 statements_are [] = refl
@@ -17,21 +18,6 @@ statements_are (a ∷ ss) = ap (λ z. a ∷ z) (statements_are ss)
 pub block_is : (b : Block) → block (statements b) ≡ b
 block_is end = refl
 block_is (next a b) = ap (next a) (block_is b)
-
-pub in_last : (s : Step) (path : Path) (ss : List Statement) → slice_get path 0 ≡ None → block_in (s ∷ path) ss ≡ Some ss
-in_last s [] ss h = refl
-in_last s (t ∷ path) ss h = cc
-
-pub in_none : (s t : Step) (path : Path) (ss : List Statement) → slice_get path 0 ≡ Some t → slice_get ss s.index ≡ None → block_in (s ∷ path) ss ≡ None
-in_none s t [] ss h e = cc
-in_none s t (u ∷ path) ss h e = ap (λ o. option_and_then (λ b. block_in (u ∷ path) (statements b)) (option_and_then (branch_of u.branch) o)) e
-
-pub in_next : (s t : Step) (path : Path) (ss : List Statement) (a : Statement) (x : Option Block) → slice_get path 0 ≡ Some t → slice_get ss s.index ≡ Some a → branch_of t.branch a ≡ x → block_in (s ∷ path) ss ≡ option_and_then (λ b. block_in path (statements b)) x
-in_next s t [] ss a x h e f = cc
-in_next s t (u ∷ path) ss a x h e f =
-    let g : u ≡ t = cc in
-    ap (λ o. option_and_then (λ b. block_in (u ∷ path) (statements b)) (option_and_then (branch_of u.branch) o)) e
-    ∙ ap (option_and_then (λ b. block_in (u ∷ path) (statements b))) (ap (λ (v : Step). branch_of v.branch a) g ∙ f)
 
 -- ---- what is opened
 
@@ -104,53 +90,101 @@ past_into f which zero (a ∷ ss) = into_piece f which a (block ss)
 past_into f which (suc k) [] = refl
 past_into f which (suc k) (a ∷ ss) = piece_round (After a) (past k (into which f) (block ss)) ∙ past_into f which k ss
 
--- the index of a path's last step
-abbrev pub last_index : Path → ℕ
-last_index [] = 0
-last_index (s ∷ []) = s.index
-last_index (s ∷ t ∷ path) = last_index (t ∷ path)
+-- the piece that the rest of a path leads to, from the statement of a number in a block
+abbrev pub piece_from : ℕ → Path → ℕ → List Statement → Option Block
+piece_from count [] k ss = cut k count ss
+piece_from count (t ∷ path) k ss =
+    option_and_then (λ b. piece_from count path t.index (statements b))
+    (option_and_then (branch_of t.branch) (slice_get ss k))
 
--- what is opened at a path are statements of the block in which it ends
-pub opened_cut : (count : ℕ) (path : Path) (ss : List Statement) → piece_of (opened_in count path (block ss)) ≡ option_and_then (cut (last_index path) count) (block_in path ss)
-opened_cut count [] ss = refl
-opened_cut count (s ∷ []) ss = last_cut s.index count ss
-opened_cut count (s ∷ t ∷ path) ss = past_into (opened_in count (t ∷ path)) t.branch s.index ss ∙ go (λ b. ap (λ z. piece_of (opened_in count (t ∷ path) z)) (sym (block_is b)) ∙ opened_cut count (t ∷ path) (statements b)) (option_and_then (branch_of t.branch) (slice_get ss s.index))
+opened_from : (count : ℕ) (s : Step) (path : Path) (ss : List Statement)
+    → piece_of (opened_in count (s ∷ path) (block ss)) ≡ piece_from count path s.index ss
+opened_from count s [] ss = last_cut s.index count ss
+opened_from count s (t ∷ path) ss =
+    past_into (opened_in count (t ∷ path)) t.branch s.index ss
+    ∙ go (λ b. opened_from count t path (statements b))
+    (option_and_then (branch_of t.branch) (slice_get ss s.index))
   where
-    go : ((b : Block) → piece_of (opened_in count (t ∷ path) b) ≡ option_and_then (cut (last_index (t ∷ path)) count) (block_in (t ∷ path) (statements b))) → (x : Option Block) → option_and_then (λ c. piece_of (opened_in count (t ∷ path) c)) x ≡ option_and_then (cut (last_index (t ∷ path)) count) (option_and_then (λ b. block_in (t ∷ path) (statements b)) x)
+    go : ((b : Block) → piece_of (opened_in count (t ∷ path) (block (statements b))) ≡ piece_from count path t.index (statements b))
+        → (x : Option Block) → option_and_then (λ b. piece_of (opened_in count (t ∷ path) b)) x
+        ≡ option_and_then (λ b. piece_from count path t.index (statements b)) x
     go inner None = refl
-    go inner (Some b) = inner b
+    go inner (Some b) =
+        ap (λ z. piece_of (opened_in count (t ∷ path) z)) (sym (block_is b)) ∙ inner b
 
-last_is : (path : Path) (t : Step) → slice_get path (length path - 1) ≡ Some t → last_index path ≡ t.index
-last_is [] t h = cc
-last_is (s ∷ []) t h = ap (λ (z : Step). z.index) (some_injective s t h)
-  where
-    some_injective : (a b : Step) → Some a ≡ Some b → a ≡ b
-    some_injective a b e = cc
-last_is (s ∷ u ∷ path) t h = last_is (u ∷ path) t (let e : length (u ∷ path) - 1 ≡ length path = omega arith in ap (slice_get (u ∷ path)) e ∙ sym (let f : length (s ∷ u ∷ path) - 1 ≡ suc (length path) = omega arith in ap (slice_get (s ∷ u ∷ path)) f) ∙ h)
+-- ---- the way along a path
 
--- the piece, by what the code has found of its procedure and path
-pub piece_found : (unit : Program) (p : ℕ) (path : Path) (count : ℕ) (q : Procedure) (ss : List Statement) (s t : Step) → slice_get unit.procedures p ≡ Some q → q.body ≡ block ss → slice_get path 0 ≡ Some s → s.branch ≡ Main → slice_get path (length path - 1) ≡ Some t → piece_at unit p path count ≡ option_and_then (cut t.index count) (block_in path ss)
-piece_found unit p [] count q ss s t e f g h j = cc
-piece_found unit p (u ∷ path) count q ss s t e f g h j =
-    let same : u ≡ s = some_injective u s g in
-    ap (option_and_then (λ (r : Procedure). piece_of (opened count (u ∷ path) r.body))) e
-    ∙ ap (λ b. piece_of (opened count (u ∷ path) b)) f
-    ∙ ap (λ (w : Branch). piece_of (elim w as (λ w. Option Opened) [ Main ↦ opened_in count (u ∷ path) (block ss) | Else ↦ None ])) (ap (λ (z : Step). z.branch) same ∙ h)
-    ∙ opened_cut count (u ∷ path) ss
-    ∙ ap (λ k. option_and_then (cut k count) (block_in (u ∷ path) ss)) (last_is (u ∷ path) t j)
-  where
-    some_injective : (a b : Step) → Some a ≡ Some b → a ≡ b
-    some_injective a b e = cc
+module _ (unit : Program) (p : ℕ) (path : Path) (count : ℕ) (q : Procedure)
+    (steps rest : List declared.Step) (s : declared.Step) (same : map step_taken steps ≡ path)
+    (split : steps ≡ s ∷ rest) (found : slice_get unit.procedures p ≡ Some q) where
+  is_opened : piece_at unit p path count
+      ≡ piece_of (opened count (step_taken s ∷ map step_taken rest) q.body)
+  is_opened =
+      ap (λ z. piece_at unit p z count) (sym same ∙ ap (map step_taken) split)
+      ∙ ap (option_and_then (λ (r : Procedure). piece_of (opened count (step_taken s ∷ map step_taken rest) r.body))) found
 
-length-steps : (steps : List declared.Step) → length (map step_taken steps) ≡ length steps
-length-steps [] = refl
-length-steps (s ∷ steps) = ap suc (length-steps steps)
+  into_branch : (w : Branch) → (step_taken s).branch ≡ w → piece_at unit p path count
+      ≡ piece_of (elim w as (λ w. Option Opened) [
+        | Main ↦ opened_in count (step_taken s ∷ map step_taken rest) q.body
+        | Else ↦ None
+      ])
+  into_branch w e =
+      is_opened
+      ∙ ap (λ (v : Branch). piece_of (elim v as (λ v. Option Opened) [
+        | Main ↦ opened_in count (step_taken s ∷ map step_taken rest) q.body
+        | Else ↦ None
+      ])) e
 
--- the same of the program's steps
-pub piece_by_steps : (unit : Program) (p : ℕ) (path : Path) (count : ℕ) (steps : List declared.Step) (q : Procedure) (ss : List Statement) (s t : declared.Step) → map step_taken steps ≡ path → slice_get unit.procedures p ≡ Some q → q.body ≡ block ss → slice_get steps 0 ≡ Some s → (step_taken s).branch ≡ Main → slice_get steps (length steps - 1) ≡ Some t → piece_at unit p path count ≡ option_and_then (cut t.index count) (block_in path ss)
-piece_by_steps unit p path count steps q ss s t same e f g h j =
-    subst (λ z. piece_at unit p z count ≡ option_and_then (cut t.index count) (block_in z ss)) same
-    (piece_found unit p (map step_taken steps) count q ss (step_taken s) (step_taken t) e f (slice_get-map step_taken steps 0 ∙ ap (option_map step_taken) g) h (ap (λ n. slice_get (map step_taken steps) (n - 1)) (length-steps steps) ∙ slice_get-map step_taken steps (length steps - 1) ∙ ap (option_map step_taken) j))
+  -- the first step is into the body
+  pub way_begins : (ss : List Statement) → q.body ≡ block ss → (step_taken s).branch ≡ Main
+      → piece_from count (map step_taken rest) s.index ss ≡ piece_at unit p path count
+  way_begins ss body main =
+      sym (into_branch Main main
+      ∙ ap (λ b. piece_of (opened_in count (step_taken s ∷ map step_taken rest) b)) body
+      ∙ opened_from count (step_taken s) (map step_taken rest) ss)
+
+  pub no_way : (step_taken s).branch ≡ Else → piece_at unit p path count ≡ None
+  no_way other = into_branch Else other
+
+-- what stands where there is no step
+abbrev pub no_step : declared.Step
+no_step = record { branch = which.Main; index = 0 }
+
+module _ (count : ℕ) (steps : List declared.Step) (i k : ℕ) (ss : List Statement)
+    (whole : Option Block) (inside : i < length steps)
+    (so_far : piece_from count (map step_taken (drop i steps)) k ss ≡ whole) where
+  abbrev step : Step
+  step = step_taken (get_or steps i no_step)
+
+  abbrev rest : Path
+  rest = map step_taken (drop (i + 1) steps)
+
+  steps_split : drop i steps ≡ get_or steps i no_step ∷ drop (i + 1) steps
+  steps_split =
+      drop-cons steps i no_step inside
+      ∙ ap (λ n. get_or steps i no_step ∷ drop n steps) (sym (add-one i))
+
+  by_branch : (x : Option Block) → option_and_then (branch_of step.branch) (slice_get ss k) ≡ x
+      → option_and_then (λ b. piece_from count rest step.index (statements b)) x ≡ whole
+  by_branch x e =
+      ap (option_and_then (λ b. piece_from count rest step.index (statements b))) (sym e)
+      ∙ ap (λ z. piece_from count (map step_taken z) k ss) (sym steps_split)
+      ∙ so_far
+
+  -- one step more
+  pub way_goes : (inner : List Statement) (a : Statement) → slice_get ss k ≡ Some a
+      → branch_of step.branch a ≡ Some (block inner) → piece_from count rest step.index inner ≡ whole
+  way_goes inner a e f =
+      ap (piece_from count rest step.index) (sym (statements_are inner))
+      ∙ by_branch (Some (block inner)) (ap (option_and_then (branch_of step.branch)) e ∙ f)
+
+  -- there is no such statement, or it has no such branch
+  pub way_ends : slice_get ss k ≡ None → whole ≡ None
+  way_ends e = sym (by_branch None (ap (option_and_then (branch_of step.branch)) e))
+
+  pub way_breaks : (a : Statement) → slice_get ss k ≡ Some a → branch_of step.branch a ≡ None
+      → whole ≡ None
+  way_breaks a e f = sym (by_branch None (ap (option_and_then (branch_of step.branch)) e ∙ f))
 
 -- ---- what an answer says
 

@@ -1,10 +1,11 @@
 -- Sets of fields, and their members in order.
-use Rattle.std.proofs.Common.{◌≡◌, ◌<◌, ◌≤◌, ℕ, zero, suc, ◌+◌, ◌-◌, nat_lt, Bool, true, false, if◌then◌else◌, ◌&&◌, ◌||◌, List, [], ◌∷◌, ◌++◌, length, get_or, refl, sym, ap, ap₂, ◌∙◌, arith, drop-cons, Result, Ok, Err, IfOk}
-use Rattle.std.proofs.lemmas.List.{drop_all}
+use Rattle.std.proofs.Common.{◌≡◌, ◌<◌, ◌≤◌, ℕ, zero, suc, ◌+◌, ◌-◌, Bool, true, false, if◌then◌else◌, ◌||◌, List, [], ◌∷◌, ◌++◌, length, get_or}
+use Rattle.std.proofs.Common.{refl, sym, ap, ap₂, ◌∙◌, arith, drop-cons, Result, Ok, Err, IfOk}
+use Rattle.std.proofs.lemmas.List.{append-nil, drop_all}
 use Rattle.std.specs.Prelude.{map, drop, take, slice_range, replicate}
 use Rattle.exo_tree.specs.Tree.{Statement, Block, end, next, block, Coord, At, Span}
 use Rattle.meaning_laws.specs.Live.{read_by_control, read_by_coords}
-use Rattle.config_state.specs.FieldSets.{contains, Marked, fields_from, fields_where}
+use Rattle.config_state.specs.FieldSets.{contains, Marked, fields_from}
 
 -- ---- members in order
 
@@ -26,6 +27,13 @@ take_one done n m test whole h t e = append_one done n (fields_from (n + 1) (m -
 
 pub pass_one : (done : List ℕ) (n m : ℕ) (test : ℕ → Bool) (whole : List ℕ) → n < m → test n ≡ false → done ++ fields_from n (m - n) test ≡ whole → done ++ fields_from (n + 1) (m - (n + 1)) test ≡ whole
 pass_one done n m test whole h t e = ap (λ z. done ++ z) (sym (fields_step n m test h ∙ ap (λ b. if b then n ∷ fields_from (n + 1) (m - (n + 1)) test else fields_from (n + 1) (m - (n + 1)) test) t)) ∙ e
+
+-- none is left
+pub all_taken : (done : List ℕ) (n m : ℕ) (test : ℕ → Bool) (whole : List ℕ) → m ≤ n
+    → done ++ fields_from n (m - n) test ≡ whole → done ≡ whole
+all_taken done n m test whole h e =
+    let none : m - n ≡ 0 = omega (arith, h) in
+    sym (append-nil done) ∙ ap (λ c. done ++ fields_from n c test) (sym none) ∙ e
 
 -- ---- marks
 
@@ -52,6 +60,25 @@ marked_then test more old mid new h k = record {
 -- one statement and then the rest
 pub block_marked : (whole : Block → ℕ → Bool) (one : Statement → ℕ → Bool) → ((a : Statement) (b : Block) (f : ℕ) → whole (next a b) f ≡ (one a f || whole b f)) → (ss rest : List Statement) (k : ℕ) (a : Statement) (set mid new : List Bool) → drop k ss ≡ a ∷ rest → Marked (one a) set mid → Marked (whole (block rest)) mid new → Marked (whole (block (drop k ss))) set new
 block_marked whole one e ss rest k a set mid new d h j = marked_same (λ f. one a f || whole (block rest) f) (whole (block (drop k ss))) set new (λ f l. sym (e a (block rest) f) ∙ ap (λ (z : List Statement). whole (block z) f) (sym d)) (marked_then (one a) (whole (block rest)) set mid new h j)
+
+-- no statement is left
+pub block_ended : (whole : Block → ℕ → Bool) → ((f : ℕ) → whole end f ≡ false) → (ss : List Statement) (k : ℕ)
+    (set : List Bool) → length ss ≤ k → Marked (whole (block (drop k ss))) set set
+block_ended whole e ss k set h =
+    marked_same (λ f. false) (whole (block (drop k ss))) set set
+    (λ f l. sym (e f) ∙ ap (λ (z : List Statement). whole (block z) f) (sym (drop_all k ss h)))
+    (marked_none set)
+
+-- ---- how long sets are
+
+pub length_none : (n : ℕ) → length (replicate n false) ≡ n
+length_none zero = refl
+length_none (suc n) = ap suc (length_none n)
+
+-- so is one to which something is added
+pub below_limit : (n m limit : ℕ) (empty set : List Bool) → empty ≡ replicate n false → n ≡ m
+    → length set ≡ length empty → m < limit → length set < limit
+below_limit n m limit empty set e k s h = omega (arith, s, ap length e, length_none n, k, h)
 
 -- ---- an item of a slice
 

@@ -1,6 +1,6 @@
 -- Tables of sets beside lists of tests.
-use Rattle.std.proofs.Common.{◌≡◌, ◌<◌, ℕ, zero, suc, Bool, true, false, ◌||◌, List, [], ◌∷◌, ◌++◌, length, Option, Some, None, refl, sym, ap, ap₂, ◌∙◌, arith}
-use Rattle.std.specs.Prelude.{replicate, slice_get}
+use Rattle.std.proofs.Common.{◌≡◌, ◌<◌, ℕ, zero, suc, Bool, false, ◌||◌, List, [], ◌∷◌, ◌++◌, length, refl, ap, ap₂, ◌∙◌, arith}
+use Rattle.std.specs.Prelude.{replicate}
 use Rattle.exo_tree.specs.Tree.{Statement, Assign, Reduce, Config, Pass, If, For, Alloc, View, Call, Block, end, next, Procedure}
 use Rattle.meaning_laws.specs.Fields.{writes_field, step_writes_field}
 use Rattle.meaning_laws.specs.UnitFields.{written_at, written_by, all_written}
@@ -8,7 +8,7 @@ use Rattle.meaning_laws.specs.Live.{read_by_control, read_by_condition, read_by_
 use Rattle.meaning_laws.specs.UnitFields.{read_by_params, read_by_conditions}
 use Rattle.config_state.specs.Reads.{reads_field, step_reads_field, read_by, read_at, all_read}
 use Rattle.config_state.specs.FieldSets.{contains, Marked, in_table, fields_where}
-use Rattle.config_state.proofs.Sets.{fields_same}
+use Rattle.config_state.proofs.Sets.{fields_same, length_none}
 
 -- each set has the fields that pass the test beside it
 abbrev pub Agree : ℕ → List (List Bool) → List (ℕ → Bool) → Type 0
@@ -36,10 +36,6 @@ none_in zero f = refl
 none_in (suc n) zero = refl
 none_in (suc n) (suc f) = none_in n f
 
-length_none : (n : ℕ) → length (replicate n false) ≡ n
-length_none zero = refl
-length_none (suc n) = ap suc (length_none n)
-
 -- what is added to the empty set
 pub only_marked : (n : ℕ) (test : ℕ → Bool) (set : List Bool) → Marked test (replicate n false) set → (f : ℕ) → f < n → contains set f ≡ test f
 only_marked n test set h f l = h.each f (let e = length_none n in omega arith) ∙ ap (λ t. t || test f) (none_in n f)
@@ -52,7 +48,7 @@ module _ (calls other : ℕ → ℕ → Bool) (f : ℕ) (same : (k : ℕ) → ca
     writes_same end = refl
     writes_same (next a b) = ap₂ ◌||◌ (step_writes_same a) (writes_same b)
 
-    step_writes_same : (a : Statement) → step_writes_field calls f a ≡ step_writes_field other f a
+    pub step_writes_same : (a : Statement) → step_writes_field calls f a ≡ step_writes_field other f a
     step_writes_same (Assign x is e) = refl
     step_writes_same (Reduce x is e) = refl
     step_writes_same (Config g a) = refl

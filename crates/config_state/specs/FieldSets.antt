@@ -1,6 +1,6 @@
 -- Sets of a unit's fields, and tables of such sets, one for each procedure.
 use Rattle.std.specs.Prelude.{◌≡◌, ◌<◌, ℕ, zero, suc, Bool, false, if◌then◌else◌, List, []}
-use Rattle.std.specs.Prelude.{◌∷◌, length, Option, Some, None, slice_get}
+use Rattle.std.specs.Prelude.{◌∷◌, length, Some, None, slice_get}
 -- a set says of each field of the unit, by its number, whether it is in
 pub use Rattle.exo_modes.specs.Calls.Marked.{contains, Marked}
 

@@ -37,8 +37,8 @@ pub fn add_controls(es: &Indices, set: &mut FieldSet)
     }
 }
 
-/// The same of the two sides of a comparison.
-fn add_sides(a: &Ctrl, b: &Ctrl, set: &mut FieldSet)
+/// The same of two control expressions.
+pub(crate) fn add_both(a: &Ctrl, b: &Ctrl, set: &mut FieldSet)
     ensures { Marked (λ f. read_by_control f (control a.now) || read_by_control f (control b.now)) set.old set.new }
 {
     add_control(a, set);
@@ -53,7 +53,7 @@ pub fn add_condition(c: &Cond, set: &mut FieldSet)
         Cond::True | Cond::False | Cond::Var(_) => {}
         Cond::Field(f) => set.insert(*f),
         Cond::Lt(a, b) | Cond::Le(a, b) | Cond::Gt(a, b) | Cond::Ge(a, b) | Cond::Eq(a, b) => {
-            add_sides(a, b, set);
+            add_both(a, b, set);
         }
         Cond::And(a, b) | Cond::Or(a, b) => {
             add_condition(a, set);
@@ -98,10 +98,7 @@ fn add_coordinate(c: &Coord, set: &mut FieldSet)
 {
     match c {
         Coord::At(a) => add_control(a, set),
-        Coord::Span(a, b) => {
-            add_control(a, set);
-            add_control(b, set);
-        }
+        Coord::Span(a, b) => add_both(a, b, set),
     }
 }
 

@@ -1,12 +1,10 @@
 //! The statements of a procedure from a path on.
-ghost use Rattle.std.specs.Prelude.{◌≡◌, ◌≤◌, ◌<◌, ◌+◌, length, map, Some, None, MatchOption, slice_range};
-ghost use Rattle.std.specs.Option.{option_copied};
+ghost use Rattle.std.specs.Prelude.{◌≡◌, ◌≤◌, ◌<◌, ◌+◌, length, Some, None, MatchOption, slice_range};
 ghost use Rattle.exo_tree.specs.Tree.{block};
-ghost use Rattle.exo_tree.specs.PlainPlace.{step_taken};
 ghost use Rattle.exo_tree.specs.PlainUnit.{program};
-ghost use Rattle.config_state.specs.Pieces.{piece_at, block_in};
+ghost use Rattle.config_state.specs.Pieces.{piece_at};
 
-use exo_tree::{Block, Branch, Path, ProcId, Step, Unit};
+use exo_tree::{Block, Branch, Path, ProcId, Unit};
 
 /// Statements of a block: those from one index up to another.
 #[derive(Clone, Copy)]
@@ -16,17 +14,6 @@ pub(crate) struct StatementRange<'a> {
     pub(crate) to: usize,
     ghost ordered: { from ≤ to },
     ghost within: { to ≤ length block.now },
-}
-
-/// The block in which the statement at a path stands.
-fn block_at<'a>(b: &'a Block, path: &[Step]) -> Option<&'a Block>
-    ensures { option_copied result ≡ block_in (map step_taken path.now) b.now }
-{
-    let (step, rest) = path.split_first()?;
-    match rest.first() {
-        None => Some(b),
-        Some(next) => block_at(b.get(step.index as usize)?.block(next.branch)?, rest),
-    }
 }
 
 /// So many statements of a block from an index on, where they are there.
@@ -58,12 +45,17 @@ pub(crate) fn piece_at<'a>(
         (λ r. piece_at (program unit.now) p.0 path.now count
         ≡ Some (block (slice_range r.block.now r.from r.to))) }
 {
-    let body = &unit.procs.get(p.0 as usize)?.body;
-    let steps = path.as_slice();
-    let first = steps.first()?;
-    let last = steps.last()?;
+    let found = unit.procs.get(p.0 as usize)?;
+    let (first, rest) = path.as_slice().split_first()?;
     match first.branch {
-        Branch::Main => cut(block_at(body, steps)?, last.index as usize, count as usize),
-        Branch::Else => None,
+        Branch::Main => {}
+        Branch::Else => return None,
     }
+    let mut block = &found.body;
+    let mut from = first.index as usize;
+    for step in rest {
+        block = block.get(from)?.block(step.branch)?;
+        from = step.index as usize;
+    }
+    cut(block, from, count as usize)
 }

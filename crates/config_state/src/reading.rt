@@ -9,7 +9,7 @@ ghost use Rattle.config_state.specs.Pieces.{piece_at};
 ghost use Rattle.config_state.specs.FieldSets.{in_table, IsTable, Marked, fields_where};
 
 use crate::expression::{
-    add_argument, add_arguments, add_condition, add_conditions, add_control, add_controls,
+    add_argument, add_arguments, add_both, add_condition, add_conditions, add_controls,
     add_coordinates, add_datum, add_params,
 };
 use crate::piece::piece_at;
@@ -45,8 +45,7 @@ fn add_read_by(s: &Stmt, table: &FieldTable, set: &mut FieldSet)
             add_read(b, table, set);
         }
         Stmt::For(_, lo, hi, body) => {
-            add_control(lo, set);
-            add_control(hi, set);
+            add_both(lo, hi, set);
             add_read(body, table, set);
         }
         Stmt::Alloc(_, _, dims, _) => add_controls(dims, set),

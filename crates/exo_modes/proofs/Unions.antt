@@ -1,5 +1,5 @@
 -- What several marks say together.
-use Rattle.std.proofs.Common.{◌≡◌, ℕ, ◌==◌, ◌||◌, ◌&&◌, Bool, true, false, List, refl, ap, sym, ◌∙◌}
+use Rattle.std.proofs.Common.{◌≡◌, ℕ, ◌==◌, ◌||◌, ◌&&◌, Bool, true, false, List, refl, ap, ◌∙◌}
 use Rattle.std.proofs.Math.Bool.{or_assoc}
 use Rattle.exo_tree.specs.Tree.{Control, Datum, Read, Plus, Select}
 use Rattle.exo_meaning.specs.Modes.{Mode, Reading, Writing, Reducing, Modes, picked, no_modes, reads_from}
@@ -35,14 +35,19 @@ pub read_name : (root : ℕ → ℕ) (x : ℕ) (is : List Control)
     → used (λ m. picked m true false false) (root x) ≡ reads root (Read x is)
 read_name root x is = same_modes _ _ (λ m y. name_at m (y == root x))
 
-reads_two : (root : ℕ → ℕ) (a b e : Datum) → ((y : ℕ) → reads_from root e y ≡ (reads_from root a y || reads_from root b y)) → together (reads root a) (reads root b) ≡ reads root e
-reads_two root a b e h = same_modes _ _ (λ m y. reads_at m (reads_from root a y) (reads_from root b y) ∙ ap (λ t. picked m t false false) (sym (h y)))
+-- what a sum reads, where its first part is marked
+pub read_both : (root : ℕ → ℕ) (a b : Datum) (o p : Modes) → p ≡ together o (reads root a)
+    → together p (reads root b) ≡ together o (reads root (Plus a b))
+read_both root a b o p h =
+    more o (reads root a) (reads root b) p _ h refl
+    ∙ ap (together o) (same_modes _ _ (λ m y. reads_at m (reads_from root a y) (reads_from root b y)))
 
-pub read_both : (root : ℕ → ℕ) (a b e : Datum) (o p t : Modes) → ((y : ℕ) → reads_from root e y ≡ (reads_from root a y || reads_from root b y)) → p ≡ together o (reads root a) → t ≡ together p (reads root b) → t ≡ together o (reads root e)
-read_both root a b e o p t h i j = more o (reads root a) (reads root b) p t i j ∙ ap (together o) (reads_two root a b e h)
-
-pub read_all : (root : ℕ → ℕ) (a b c d : Datum) (o p q r t : Modes) → p ≡ together o (reads root a) → q ≡ together p (reads root b) → r ≡ together q (reads root c) → t ≡ together r (reads root d) → t ≡ together o (reads root (Select a b c d))
-read_all root a b c d o p q r t i j k l =
-    let last = read_both root c d (Plus c d) q r t (λ y. refl) k l in
-    let three = read_both root b (Plus c d) (Plus b (Plus c d)) p q t (λ y. refl) j last in
-    read_both root a (Plus b (Plus c d)) (Select a b c d) o p t (λ y. refl) i three
+-- what a selection reads, where its first two parts are marked
+pub read_four : (root : ℕ → ℕ) (a b c d : Datum) (o p : Modes)
+    → p ≡ together o (reads root (Plus a b))
+    → together p (reads root (Plus c d)) ≡ together o (reads root (Select a b c d))
+read_four root a b c d o p h =
+    read_both root (Plus a b) (Plus c d) o p h
+    ∙ ap (together o)
+    (same_modes _ _ (λ m y. ap (λ t. picked m t false false)
+    (or_assoc (reads_from root a y) (reads_from root b y) (reads_from root (Plus c d) y))))

@@ -13,21 +13,29 @@ module _ (ps : List Procedure) (ms : List Modes) (root : ℕ → ℕ) where
   abbrev step : Statement → Modes
   step = step_marks ps ms root
 
-  write_at : (m : Mode) (r t : Bool) → (picked m r false false || (picked m false true false && t)) ≡ picked m r t false
-  write_at Reading r t = or_false r
-  write_at Writing r t = refl
+  write_at : (m : Mode) (r t : Bool) → ((picked m false true false && t) || picked m r false false) ≡ picked m r t false
+  write_at Reading r t = refl
+  write_at Writing r t = or_false t
   write_at Reducing r t = refl
 
-  reduce_at : (m : Mode) (r t : Bool) → (picked m r false false || (picked m false false true && t)) ≡ picked m r false t
-  reduce_at Reading r t = or_false r
+  reduce_at : (m : Mode) (r t : Bool) → ((picked m false false true && t) || picked m r false false) ≡ picked m r false t
+  reduce_at Reading r t = refl
   reduce_at Writing r t = refl
-  reduce_at Reducing r t = refl
+  reduce_at Reducing r t = or_false t
 
-  pub assigned : (x : ℕ) (is : List Control) (e : Datum) (o p t : Modes) → p ≡ together o (reads root e) → t ≡ together p (used (λ m. picked m false true false) (root x)) → t ≡ together o (step (Assign x is e))
-  assigned x is e o p t h i = more o _ _ p t h i ∙ ap (together o) (same_modes _ _ (λ m y. write_at m (reads_from root e y) (y == root x)))
+  pub assigned : (x : ℕ) (is : List Control) (e : Datum) (o p : Modes)
+      → p ≡ together o (used (λ m. picked m false true false) (root x))
+      → together p (reads root e) ≡ together o (step (Assign x is e))
+  assigned x is e o p h =
+      more o _ _ p _ h refl
+      ∙ ap (together o) (same_modes _ _ (λ m y. write_at m (reads_from root e y) (y == root x)))
 
-  pub reduced : (x : ℕ) (is : List Control) (e : Datum) (o p t : Modes) → p ≡ together o (reads root e) → t ≡ together p (used (λ m. picked m false false true) (root x)) → t ≡ together o (step (Reduce x is e))
-  reduced x is e o p t h i = more o _ _ p t h i ∙ ap (together o) (same_modes _ _ (λ m y. reduce_at m (reads_from root e y) (y == root x)))
+  pub reduced : (x : ℕ) (is : List Control) (e : Datum) (o p : Modes)
+      → p ≡ together o (used (λ m. picked m false false true) (root x))
+      → together p (reads root e) ≡ together o (step (Reduce x is e))
+  reduced x is e o p h =
+      more o _ _ p _ h refl
+      ∙ ap (together o) (same_modes _ _ (λ m y. reduce_at m (reads_from root e y) (y == root x)))
 
   made_at : (m : Mode) (t : Bool) → (picked m false true false && t) ≡ picked m false t false
   made_at Reading t = refl

@@ -9,34 +9,19 @@ weight (Const n) = 1
 weight (Read x is) = 1
 weight (Negated a) = suc (weight a)
 weight (Relu a) = suc (weight a)
-weight (Plus a b) = suc (weight a + weight b)
-weight (Minus a b) = suc (weight a + weight b)
-weight (Times a b) = suc (weight a + weight b)
-weight (Select a b c d) = suc ((weight a + weight b) + (weight c + weight d))
+weight (Plus a b) = suc (suc (weight a + weight b))
+weight (Minus a b) = suc (suc (weight a + weight b))
+weight (Times a b) = suc (suc (weight a + weight b))
+weight (Select a b c d) = suc (suc (weight a + weight b) + suc (weight c + weight d))
 
 abbrev pub weighs : DataExpr → ℕ
 weighs e = weight (datum e)
 
--- what equals a part of what weighs n is lighter
-pub left_lighter : (a b r : DataExpr) (n : ℕ)
-    → suc (weighs a + weighs b) ≡ n → r ≡ a → weighs r < n
-left_lighter a b r n h e = omega (arith, h, ap weighs e)
+-- what equals two of the four parts of a selection that weighs n is lighter
+module _ (a b c d r s : DataExpr) (n : ℕ)
+    (h : suc (suc (weighs a + weighs b) + suc (weighs c + weighs d)) ≡ n) where
+  pub first_two : r ≡ a → s ≡ b → suc (weighs r + weighs s) < n
+  first_two e f = omega (arith, h, ap weighs e, ap weighs f)
 
-pub right_lighter : (a b r : DataExpr) (n : ℕ)
-    → suc (weighs a + weighs b) ≡ n → r ≡ b → weighs r < n
-right_lighter a b r n h e = omega (arith, h, ap weighs e)
-
--- of the four parts of a selection
-module _ (a b c d r : DataExpr) (n : ℕ)
-    (h : suc ((weighs a + weighs b) + (weighs c + weighs d)) ≡ n) where
-  pub first_lighter : r ≡ a → weighs r < n
-  first_lighter e = omega (arith, h, ap weighs e)
-
-  pub second_lighter : r ≡ b → weighs r < n
-  second_lighter e = omega (arith, h, ap weighs e)
-
-  pub third_lighter : r ≡ c → weighs r < n
-  third_lighter e = omega (arith, h, ap weighs e)
-
-  pub fourth_lighter : r ≡ d → weighs r < n
-  fourth_lighter e = omega (arith, h, ap weighs e)
+  pub last_two : r ≡ c → s ≡ d → suc (weighs r + weighs s) < n
+  last_two e f = omega (arith, h, ap weighs e, ap weighs f)

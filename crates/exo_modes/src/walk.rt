@@ -1,6 +1,6 @@
 //! A walk through the body of a procedure.
 ghost use Rattle.std.specs.Prelude.{◌≡◌, ◌&&◌, map, take, length, OnOk, IfOk};
-ghost use Rattle.exo_tree.specs.Tree.{block};
+ghost use Rattle.exo_tree.specs.Tree.{block, Plus};
 ghost use Rattle.exo_tree.specs.PlainDatum.{datum};
 ghost use Rattle.exo_tree.specs.PlainParam.{parameter};
 ghost use Rattle.exo_tree.specs.PlainArgument.{argument};
@@ -25,37 +25,38 @@ pub struct CallableModes<'a> {
 }
 
 /// Marks what an expression reads.
+#[cycle(mark_reads)]
 fn mark_reads(row: &mut ModesRow, aliases: &[Alias], e: &DataExpr) -> Result<(), AllocError>
     ensures { OnOk result (row_says row.new ≡ together (row_says row.old) (reads (roots_in aliases.now) (datum e.now))) }
 {
     match e {
         DataExpr::Lit(_) => Ok(()),
         DataExpr::Read(x, _) => row.insert(root(aliases, x.0), Modes::READ),
-        DataExpr::Neg(a) => mark_reads(row, aliases, a),
-        DataExpr::Relu(a) => mark_reads(row, aliases, a),
-        DataExpr::Add(a, b) => {
-            mark_reads(row, aliases, a)?;
-            mark_reads(row, aliases, b)?;
-            Ok(())
-        }
-        DataExpr::Sub(a, b) => {
-            mark_reads(row, aliases, a)?;
-            mark_reads(row, aliases, b)?;
-            Ok(())
-        }
-        DataExpr::Mul(a, b) => {
-            mark_reads(row, aliases, a)?;
-            mark_reads(row, aliases, b)?;
-            Ok(())
+        DataExpr::Neg(a) | DataExpr::Relu(a) => mark_reads(row, aliases, a),
+        DataExpr::Add(a, b) | DataExpr::Sub(a, b) | DataExpr::Mul(a, b) => {
+            mark_both(row, aliases, a, b)
         }
         DataExpr::Select(a, b, c, d) => {
-            mark_reads(row, aliases, a)?;
-            mark_reads(row, aliases, b)?;
-            mark_reads(row, aliases, c)?;
-            mark_reads(row, aliases, d)?;
-            Ok(())
+            mark_both(row, aliases, a, b)?;
+            mark_both(row, aliases, c, d)
         }
     }
+}
+
+/// The same of two expressions.
+#[cycle(mark_reads)]
+fn mark_both(
+    row: &mut ModesRow,
+    aliases: &[Alias],
+    a: &DataExpr,
+    b: &DataExpr,
+) -> Result<(), AllocError>
+    ensures { OnOk result
+        (row_says row.new
+        ≡ together (row_says row.old) (reads (roots_in aliases.now) (Plus (datum a.now) (datum b.now)))) }
+{
+    mark_reads(row, aliases, a)?;
+    mark_reads(row, aliases, b)
 }
 
 /// Marks what an argument touches, by what the callee does with its parameter.
@@ -117,11 +118,13 @@ fn mark_call(
     if above.rows.len() <= index {
         return Ok(());
     }
-    if let Some(p) = above.procs.get(index) {
-        let callee = &above.rows[index];
-        mark_arguments(row, aliases, callee, p.params.as_slice(), args.as_slice())?;
+    match above.procs.get(index) {
+        Some(p) => {
+            let callee = &above.rows[index];
+            mark_arguments(row, aliases, callee, p.params.as_slice(), args.as_slice())
+        }
+        None => Ok(()),
     }
-    Ok(())
 }
 
 /// Marks what a statement touches, and adds the name that it binds.
@@ -142,14 +145,12 @@ fn walk_statement(
 {
     match s {
         Stmt::Assign(x, _, e) => {
-            mark_reads(row, aliases, e)?;
             row.insert(root(aliases, x.0), Modes::WRITE)?;
-            Ok(())
+            mark_reads(row, aliases, e)
         }
         Stmt::Reduce(x, _, e) => {
-            mark_reads(row, aliases, e)?;
             row.insert(root(aliases, x.0), Modes::REDUCE)?;
-            Ok(())
+            mark_reads(row, aliases, e)
         }
         Stmt::If(_, a, b) => {
             walk_block(above, row, aliases, a)?;
@@ -159,8 +160,7 @@ fn walk_statement(
         Stmt::For(_, _, _, b) => walk_block(above, row, aliases, b),
         Stmt::Alloc(x, _, _, _) => {
             row.insert(x.id.0, Modes::WRITE)?;
-            set_root(aliases, x.id.0, x.id.0)?;
-            Ok(())
+            set_root(aliases, x.id.0, x.id.0)
         }
         Stmt::View(w, x, _) => {
             let buffer = root(aliases, x.0);

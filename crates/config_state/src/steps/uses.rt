@@ -7,12 +7,12 @@ ghost use Rattle.config_state.specs.Steps.Fields.{IsFieldSet, IsWrittenTable, so
 ghost use Rattle.config_state.specs.Steps.Fields.{written_in, read_in, written_by, read_by};
 
 use crate::steps::some::is_some;
+use crate::writes::add_written_by;
 use crate::{FieldSet, FieldTable, add_read, add_written, read_table};
 use exo_tree::{Block, Stmt, Unit};
 use std::alloc::{AllocError, Global};
 
 /// The fields that a block may write, directly or by calls. The table is that of the unit.
-#[tactic(auto, using(crate::proofs::OfSteps::Sets::written_set))]
 pub fn may_write(
     alloc: Global,
     unit: &Unit,
@@ -28,7 +28,6 @@ pub fn may_write(
 }
 
 /// The fields that a block may read, directly or by calls.
-#[tactic(auto, using(crate::proofs::OfSteps::Sets::read_set))]
 pub fn may_read(alloc: Global, unit: &Unit, b: &Block) -> Result<FieldSet, AllocError>
     ensures { IfOk result (λ s. IsFieldSet (length (program unit.now).fields) (read_in (program unit.now) (block b.now)) s) }
 {
@@ -39,7 +38,6 @@ pub fn may_read(alloc: Global, unit: &Unit, b: &Block) -> Result<FieldSet, Alloc
 }
 
 /// The fields that a statement may write, directly or by calls. The table is that of the unit.
-#[tactic(auto, using(crate::proofs::OfSteps::Sets::written_alone))]
 pub fn statement_may_write(
     alloc: Global,
     unit: &Unit,
@@ -49,8 +47,9 @@ pub fn statement_may_write(
     requires { IsWrittenTable (program unit.now) writes.now }
     ensures { IfOk result (λ set. IsFieldSet (length (program unit.now).fields) (written_by (program unit.now) (statement s.now)) set) }
 {
-    let alone = Block::single(alloc, s.duplicate(alloc)?)?;
-    may_write(alloc, unit, writes, &alone)
+    let mut set = FieldSet::empty(alloc, unit.fields.len())?;
+    add_written_by(s, writes, &mut set);
+    Ok(set)
 }
 
 /// The fields that a statement may read, directly or by calls.

@@ -56,23 +56,15 @@ fn mark_called_by(s: &Stmt, marks: &mut Marks)
     }
 }
 
-/// Whether calls are followed from a procedure: it is marked and passes.
-fn is_followed(p: &Proc, at: usize, through: Through, marks: &Marks) -> bool
-    ensures { result ≡ (contains marks.now at && passed through (procedure p.now)) }
-{
-    marks.has(at) && through.passes(p)
-}
-
 /// Marks what a procedure calls, where its calls are followed.
 #[tactic(auto, using(crate::proofs::OfCalls::Sets::marked_off, crate::proofs::OfCalls::Sets::marked_on))]
 fn mark_called_from(p: &Proc, at: usize, through: Through, marks: &mut Marks)
     ensures { Marked (λ k. (contains marks.old at && passed through (procedure p.now))
         && calls k (procedure p.now).body) marks.old marks.new }
 {
-    if !is_followed(p, at, through, marks) {
-        return;
+    if marks.has(at) && through.passes(p) {
+        mark_called(&p.body, marks);
     }
-    mark_called(&p.body, marks);
 }
 
 /// Marks what the marked procedures of a unit call, directly or through others, where a call is followed through

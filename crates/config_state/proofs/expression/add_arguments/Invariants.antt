@@ -1,6 +1,6 @@
 use Rattle.std.specs.Prelude.{map, drop}
 use Rattle.exo_tree.specs.PlainArgument.{argument}
-use Rattle.meaning_laws.specs.Live.{read_by_argument, read_by_arguments}
+use Rattle.meaning_laws.specs.Live.{read_by_arguments}
 use Rattle.config_state.specs.FieldSets.{Marked}
 use Rattle.config_state.proofs.expression.add_arguments.Given as goal
 

@@ -1,6 +1,5 @@
 use Rattle.std.specs.Prelude.{map, drop}
 use Rattle.exo_tree.specs.PlainControl.{condition}
-use Rattle.meaning_laws.specs.Live.{read_by_condition}
 use Rattle.meaning_laws.specs.UnitFields.{read_by_conditions}
 use Rattle.config_state.specs.FieldSets.{Marked}
 use Rattle.config_state.proofs.expression.add_conditions.Given as goal

@@ -1,6 +1,6 @@
 use Rattle.std.specs.Prelude.{map, drop}
 use Rattle.exo_tree.specs.PlainControl.{control}
-use Rattle.meaning_laws.specs.Live.{read_by_controls, read_by_control}
+use Rattle.meaning_laws.specs.Live.{read_by_controls}
 use Rattle.config_state.specs.FieldSets.{Marked}
 use Rattle.config_state.proofs.expression.add_controls.Given as goal
 

@@ -1,6 +1,6 @@
 use Rattle.std.specs.Prelude.{map, drop}
 use Rattle.exo_tree.specs.PlainParam.{parameter}
-use Rattle.meaning_laws.specs.UnitFields.{read_by_params, read_by_kind}
+use Rattle.meaning_laws.specs.UnitFields.{read_by_params}
 use Rattle.config_state.specs.FieldSets.{Marked}
 use Rattle.config_state.proofs.expression.add_params.Given as goal
 

@@ -1,7 +1,7 @@
-use Rattle.std.proofs.Common.{◌≡◌, ◌∷◌, ◌+◌, [], drop, length, map, refl, sym, ap, ◌∙◌, subst, false, arith, drop-cons}
+use Rattle.std.proofs.Common.{◌≡◌, ◌∷◌, ◌+◌, [], drop, length, map, sym, ap, ◌∙◌, subst, false}
 use Rattle.std.specs.Prelude.{replicate}
 use Rattle.std.proofs.lemmas.List.{drop_all}
-use Rattle.exo_tree.specs.Tree.{block, Procedure}
+use Rattle.exo_tree.specs.Tree.{block}
 use Rattle.exo_tree.specs.PlainProcedure.{procedure}
 use Rattle.meaning_laws.specs.Fields.{writes_field}
 use Rattle.config_state.specs.FieldSets.{in_table, Marked}

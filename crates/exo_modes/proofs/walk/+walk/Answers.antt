@@ -20,20 +20,81 @@ use Rattle.exo_modes.proofs.walk.+walk.Goals as goal
 pub walk_statement-returns-in_ok-insert-in-Assign-clause-marks : goal.walk_statement-returns-in_ok-insert-in-Assign-clause-marks
 walk_statement-returns-in_ok-insert-in-Assign-clause-marks t c =
     let o = row_says c.args.row.now in
+    let ps = c.args.above.now.procs.now in
+    let ms = rows_say c.args.above.now.rows.now in
+    let known = roots_in c.args.aliases.now.items in
     let e = datum c.in-Assign.e in
-    let h = c.in_ok-mark_reads-in-Assign.ensures ∙ ap (λ xs. together o (reads (roots_in xs) e)) c.deref.ensures.value in
-    let i = c.in_ok-insert-in-Assign.ensures ∙ ap (λ y. together (row_says c.mark_reads.new.row) (used (λ m. picked m false true false) y)) (c.root.ensures ∙ ap (λ xs. roots_in xs c.in-Assign.x.0) c.deref-in-Assign.ensures.value) in
-    assigned c.args.above.now.procs.now (rows_say c.args.above.now.rows.now) (roots_in c.args.aliases.now.items) c.in-Assign.x.0 c.in-Assign.field-1 e o _ _ h i
-    ∙ ap (λ s. together o (step_marks c.args.above.now.procs.now (rows_say c.args.above.now.rows.now) (roots_in c.args.aliases.now.items) s)) (sym (ap statement c.in-Assign.is))
+    let is = sym (ap statement c.in-Assign.is) in
+    let i =
+    c.in_ok-insert-in-Assign.ensures
+    ∙ ap (λ y. together o (used (λ m. picked m false true false) y))
+    (c.root.ensures ∙ ap (λ xs. roots_in xs c.in-Assign.x.0) c.deref.ensures.value) in
+    made_of c.mark_reads.result (λ f. f) (row_says c.mark_reads.new.row) _ _ c.mark_reads.ensures
+    (ap (λ xs. together (row_says c.insert.new.self) (reads (roots_in xs) e))
+    c.deref-in-Assign.ensures.value
+    ∙ assigned ps ms known c.in-Assign.x.0 c.in-Assign.field-1 e o _ i
+    ∙ ap (λ s. together o (step_marks ps ms known s)) is)
+
+pub walk_statement-returns-in_ok-insert-in-Assign-clause-roots : goal.walk_statement-returns-in_ok-insert-in-Assign-clause-roots
+walk_statement-returns-in_ok-insert-in-Assign-clause-roots t c =
+    let root = roots_in c.args.aliases.now.items in
+    let is = sym (ap statement c.in-Assign.is) in
+    anyhow c.mark_reads.result (ap (λ s. roots_after s root) is)
+
+pub walk_statement-returns-in_ok-insert-in-Assign-clause-kept : goal.walk_statement-returns-in_ok-insert-in-Assign-clause-kept
+walk_statement-returns-in_ok-insert-in-Assign-clause-kept t c =
+    anyhow c.mark_reads.result (kept_same c.args.aliases.now.items)
 
 pub walk_statement-returns-in_ok-insert-in-Reduce-clause-marks : goal.walk_statement-returns-in_ok-insert-in-Reduce-clause-marks
 walk_statement-returns-in_ok-insert-in-Reduce-clause-marks t c =
     let o = row_says c.args.row.now in
+    let ps = c.args.above.now.procs.now in
+    let ms = rows_say c.args.above.now.rows.now in
+    let known = roots_in c.args.aliases.now.items in
     let e = datum c.in-Reduce.e in
-    let h = c.in_ok-mark_reads-in-Reduce.ensures ∙ ap (λ xs. together o (reads (roots_in xs) e)) c.deref-in-Reduce.ensures.value in
-    let i = c.in_ok-insert-in-Reduce.ensures ∙ ap (λ y. together (row_says c.mark_reads-in-Reduce.new.row) (used (λ m. picked m false false true) y)) (c.root-in-Reduce.ensures ∙ ap (λ xs. roots_in xs c.in-Reduce.x.0) c.deref-in-Reduce-2.ensures.value) in
-    reduced c.args.above.now.procs.now (rows_say c.args.above.now.rows.now) (roots_in c.args.aliases.now.items) c.in-Reduce.x.0 c.in-Reduce.field-1 e o _ _ h i
-    ∙ ap (λ s. together o (step_marks c.args.above.now.procs.now (rows_say c.args.above.now.rows.now) (roots_in c.args.aliases.now.items) s)) (sym (ap statement c.in-Reduce.is))
+    let is = sym (ap statement c.in-Reduce.is) in
+    let i =
+    c.in_ok-insert-in-Reduce.ensures
+    ∙ ap (λ y. together o (used (λ m. picked m false false true) y))
+    (c.root-in-Reduce.ensures ∙ ap (λ xs. roots_in xs c.in-Reduce.x.0) c.deref-in-Reduce.ensures.value) in
+    made_of c.mark_reads-in-Reduce.result (λ f. f) (row_says c.mark_reads-in-Reduce.new.row) _ _ c.mark_reads-in-Reduce.ensures
+    (ap (λ xs. together (row_says c.insert-in-Reduce.new.self) (reads (roots_in xs) e))
+    c.deref-in-Reduce-2.ensures.value
+    ∙ reduced ps ms known c.in-Reduce.x.0 c.in-Reduce.field-1 e o _ i
+    ∙ ap (λ s. together o (step_marks ps ms known s)) is)
+
+pub walk_statement-returns-in_ok-insert-in-Reduce-clause-roots : goal.walk_statement-returns-in_ok-insert-in-Reduce-clause-roots
+walk_statement-returns-in_ok-insert-in-Reduce-clause-roots t c =
+    let root = roots_in c.args.aliases.now.items in
+    let is = sym (ap statement c.in-Reduce.is) in
+    anyhow c.mark_reads-in-Reduce.result (ap (λ s. roots_after s root) is)
+
+pub walk_statement-returns-in_ok-insert-in-Reduce-clause-kept : goal.walk_statement-returns-in_ok-insert-in-Reduce-clause-kept
+walk_statement-returns-in_ok-insert-in-Reduce-clause-kept t c =
+    anyhow c.mark_reads-in-Reduce.result (kept_same c.args.aliases.now.items)
+
+pub walk_statement-returns-in_ok-insert-in-Alloc-clause-marks : goal.walk_statement-returns-in_ok-insert-in-Alloc-clause-marks
+walk_statement-returns-in_ok-insert-in-Alloc-clause-marks t c =
+    let o = row_says c.args.row.now in
+    let ps = c.args.above.now.procs.now in
+    let ms = rows_say c.args.above.now.rows.now in
+    let root = roots_in c.args.aliases.now.items in
+    let is = sym (ap statement c.in-Alloc.is) in
+    anyhow c.set_root.result
+    (made ps ms root (binding c.in-Alloc.x) (cell_type c.in-Alloc.field-1) c.in-Alloc.field-2
+    c.in-Alloc.field-3.0 o _ c.in_ok-insert-in-Alloc.ensures
+    ∙ ap (λ s. together o (step_marks ps ms root s)) is)
+
+pub walk_statement-returns-in_ok-insert-in-Alloc-clause-roots : goal.walk_statement-returns-in_ok-insert-in-Alloc-clause-roots
+walk_statement-returns-in_ok-insert-in-Alloc-clause-roots t c =
+    let root = roots_in c.args.aliases.now.items in
+    let is = sym (ap statement c.in-Alloc.is) in
+    made_of c.set_root.result (λ f. f) (roots_in c.set_root.new.aliases.items) _ _
+    c.set_root.ensures.set
+    (ap (λ s. roots_after s root) is)
+
+pub walk_statement-returns-in_ok-insert-in-Alloc-clause-kept : goal.walk_statement-returns-in_ok-insert-in-Alloc-clause-kept
+walk_statement-returns-in_ok-insert-in-Alloc-clause-kept t c = c.set_root.ensures.kept
 
 pub walk_statement-returns-in_ok-walk_block-in-If-2-clause-marks : goal.walk_statement-returns-in_ok-walk_block-in-If-2-clause-marks
 walk_statement-returns-in_ok-walk_block-in-If-2-clause-marks t c =
@@ -41,12 +102,6 @@ walk_statement-returns-in_ok-walk_block-in-If-2-clause-marks t c =
     let i = c.in_ok-walk_block-in-If-2.ensures.marks ∙ ap (λ xs. together (row_says c.walk_block.new.row) (block_marks c.args.above.now.procs.now (rows_say c.args.above.now.rows.now) (roots_in xs) (block c.in-If.b))) c.in_ok-walk_block-in-If.ensures.kept in
     branched c.args.above.now.procs.now (rows_say c.args.above.now.rows.now) (roots_in c.args.aliases.now.items) (condition c.in-If.field-0) (block c.in-If.a) (block c.in-If.b) o _ _ c.in_ok-walk_block-in-If.ensures.marks i
     ∙ ap (λ s. together o (step_marks c.args.above.now.procs.now (rows_say c.args.above.now.rows.now) (roots_in c.args.aliases.now.items) s)) (sym (ap statement c.in-If.is))
-
-pub walk_statement-returns-in_ok-set_root-in-Alloc-clause-marks : goal.walk_statement-returns-in_ok-set_root-in-Alloc-clause-marks
-walk_statement-returns-in_ok-set_root-in-Alloc-clause-marks t c =
-    let o = row_says c.args.row.now in
-    made c.args.above.now.procs.now (rows_say c.args.above.now.rows.now) (roots_in c.args.aliases.now.items) (binding c.in-Alloc.x) (cell_type c.in-Alloc.field-1) c.in-Alloc.field-2 c.in-Alloc.field-3.0 o _ c.in_ok-insert-in-Alloc.ensures
-    ∙ ap (λ s. together o (step_marks c.args.above.now.procs.now (rows_say c.args.above.now.rows.now) (roots_in c.args.aliases.now.items) s)) (sym (ap statement c.in-Alloc.is))
 
 pub walk_block-loop-k-preserved : goal.walk_block-loop-k-preserved
 walk_block-loop-k-preserved t c = (
@@ -58,30 +113,6 @@ pub walk_block-returns-clause-marks : goal.walk_block-returns-clause-marks
 walk_block-returns-clause-marks t c =
     let h : length c.args.b.now ≤ c.loop-k.k = omega (arith, c.len-k-end.ensures, c.loop-k-test.false) in
     walked_off c.args.above.now.procs.now (rows_say c.args.above.now.rows.now) (roots_in c.loop-k.aliases.items) (row_says c.loop-k.row) _ c.args.b.now c.loop-k.k h c.loop-k.invariant.0
-
-pub walk_statement-returns-in_ok-insert-in-Assign-clause-roots
-    : goal.walk_statement-returns-in_ok-insert-in-Assign-clause-roots
-walk_statement-returns-in_ok-insert-in-Assign-clause-roots t c =
-    let root = roots_in c.args.aliases.now.items in
-    let is = sym (ap statement c.in-Assign.is) in
-    ap (λ s. roots_after s root) is
-
-pub walk_statement-returns-in_ok-insert-in-Assign-clause-kept
-    : goal.walk_statement-returns-in_ok-insert-in-Assign-clause-kept
-walk_statement-returns-in_ok-insert-in-Assign-clause-kept t c =
-    kept_same c.args.aliases.now.items
-
-pub walk_statement-returns-in_ok-insert-in-Reduce-clause-roots
-    : goal.walk_statement-returns-in_ok-insert-in-Reduce-clause-roots
-walk_statement-returns-in_ok-insert-in-Reduce-clause-roots t c =
-    let root = roots_in c.args.aliases.now.items in
-    let is = sym (ap statement c.in-Reduce.is) in
-    ap (λ s. roots_after s root) is
-
-pub walk_statement-returns-in_ok-insert-in-Reduce-clause-kept
-    : goal.walk_statement-returns-in_ok-insert-in-Reduce-clause-kept
-walk_statement-returns-in_ok-insert-in-Reduce-clause-kept t c =
-    kept_same c.args.aliases.now.items
 
 pub walk_statement-returns-in_ok-walk_block-in-If-2-clause-roots
     : goal.walk_statement-returns-in_ok-walk_block-in-If-2-clause-roots
@@ -124,18 +155,6 @@ walk_statement-returns-in-For-clause-kept t c =
     let known = c.args.aliases.now.items in
     made_of c.walk_block-in-For.result (take (length known)) c.walk_block-in-For.new.aliases.items
     known known c.walk_block-in-For.ensures.kept (kept_same known)
-
-pub walk_statement-returns-in_ok-set_root-in-Alloc-clause-roots
-    : goal.walk_statement-returns-in_ok-set_root-in-Alloc-clause-roots
-walk_statement-returns-in_ok-set_root-in-Alloc-clause-roots t c =
-    let root = roots_in c.args.aliases.now.items in
-    let is = sym (ap statement c.in-Alloc.is) in
-    c.in_ok-set_root-in-Alloc.ensures.set ∙ ap (λ s. roots_after s root) is
-
-pub walk_statement-returns-in_ok-set_root-in-Alloc-clause-kept
-    : goal.walk_statement-returns-in_ok-set_root-in-Alloc-clause-kept
-walk_statement-returns-in_ok-set_root-in-Alloc-clause-kept t c =
-    c.in_ok-set_root-in-Alloc.ensures.kept
 
 pub walk_statement-returns-in-View-clause-marks : goal.walk_statement-returns-in-View-clause-marks
 walk_statement-returns-in-View-clause-marks t c =

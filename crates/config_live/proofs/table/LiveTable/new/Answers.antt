@@ -1,8 +1,9 @@
-use Rattle.std.proofs.Common.{◌≡◌, ◌∷◌, ◌+◌, drop, length, map, sym, subst}
+use Rattle.std.proofs.Common.{◌≡◌, [], ◌∷◌, ◌+◌, drop, length, map, sym, subst}
 use Rattle.std.proofs.lemmas.List.{drop_all}
 use Rattle.exo_tree.specs.PlainProcedure.{procedure}
 use Rattle.config_state.proofs.Sets.{drop_item}
-use Rattle.config_live.proofs.Units.{SoFar, step_on, all_read, all_written}
+use Rattle.config_live.specs.Ways.{IsStart}
+use Rattle.config_live.proofs.Units.{SoFar, start, step_on, all_read, all_written}
 use Rattle.config_live.proofs.table.LiveTable.new.Goals as goal
 
 pub loop-p-preserved : goal.loop-p-preserved
@@ -32,3 +33,12 @@ returns c =
       read_first = all_read n calls procs whole;
       surely_written = all_written n calls procs whole;
     }
+
+pub loop-p-init : goal.loop-p-init
+loop-p-init c =
+    let n = length c.args.unit.now.fields in
+    let procs = c.args.unit.now.procs in (
+      subst (λ t. SoFar n t (map procedure c.as_slice-p-items.result.now) procs) (sym c.new.ensures.items)
+          (subst (λ r. SoFar n [] r procs) (sym c.as_slice-p-items.ensures) (start n procs)),
+      subst (λ m. IsStart m c.in_ok-way.way) c.len.ensures c.in_ok-way.ensures,
+    )

@@ -1,8 +1,8 @@
-use Rattle.std.proofs.Common.{◌≡◌, ◌<◌, ◌++◌, ◌∷◌, [], ◌-◌, ◌+◌, map, length, ap, sym, ◌∙◌, arith}
+use Rattle.std.proofs.Common.{◌<◌, ◌≤◌, ◌++◌, ◌∷◌, [], ◌-◌, ◌+◌, map, length, ap, sym, ◌∙◌, arith}
 use Rattle.std.proofs.lemmas.List.{map-append}
 use Rattle.exo_tree.specs.declared.number.FieldId.{FieldId}
-use Rattle.config_state.specs.FieldSets.{contains, fields_from, fields_where}
-use Rattle.config_state.proofs.Sets.{take_one, pass_one}
+use Rattle.config_state.specs.FieldSets.{contains, fields_from}
+use Rattle.config_state.proofs.Sets.{take_one, pass_one, all_taken}
 use Rattle.config_state.proofs.set.FieldSet.to_vec.Goals as goal
 use Rattle.config_state.proofs.set.FieldSet.to_vec.Goals.{then-contains+in_ok-push, else-contains}
 
@@ -20,3 +20,10 @@ loop-k-preserved c =
           ap (λ (v : _). map (λ (f : FieldId). f.0) v.items ++ rest) w.fields-is
           ∙ pass_one (map (λ (f : FieldId). f.0) c.loop-k.fields.items) c.loop-k.k (length c.args.self.now) (contains c.args.self.now) _ below (sym c.contains.ensures ∙ w.if-contains.false) c.loop-k.invariant
     ]
+
+pub returns : goal.returns
+returns c =
+    let n = length c.args.self.now in
+    let done : n ≤ c.loop-k.k = grind arith in
+    all_taken (map (λ (f : FieldId). f.0) c.loop-k.fields.items) c.loop-k.k n (contains c.args.self.now) _ done
+    c.loop-k.invariant

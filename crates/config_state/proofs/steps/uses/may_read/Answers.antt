@@ -1,0 +1,13 @@
+use Rattle.std.proofs.Common.{length, false, ap, ◌∙◌}
+use Rattle.std.specs.Prelude.{replicate}
+use Rattle.exo_tree.specs.Tree.{block}
+use Rattle.exo_tree.specs.PlainUnit.{program}
+use Rattle.config_state.proofs.OfSteps.Sets.{read_set}
+use Rattle.config_state.proofs.steps.uses.may_read.Goals as goal
+
+pub returns : goal.returns
+returns c =
+    let unit = program c.args.unit.now in
+    read_set (length unit.fields) c.in_ok-table.table unit (block c.args.b.now) c.in_ok-set.set
+    c.add_read.new.set c.in_ok-table.ensures
+    (c.in_ok-set.ensures ∙ ap (λ n. replicate n false) c.len.ensures) c.add_read.ensures
