@@ -14,3 +14,4 @@ pub mod Tables
 pub mod KnownRows
 pub mod RowLists
 pub mod Putting
+pub mod FormedParts

@@ -34,6 +34,7 @@ pub record IsShortSum (a b : ℤ) : Type 0 where
   pub left : to_z w128 (of_z w128 a) ≡ a
   pub right : to_z w128 (of_z w128 b) ≡ b
   pub both : to_z w128 (of_z w128 (a +ℤ b)) ≡ a +ℤ b
+  pub fits : FitsSigned w128 (a +ℤ b)
   pub within : is_within (2 ^ 63) (a +ℤ b) ≡ true
   pub row : is_row_constant (a +ℤ b) ≡ true
 
@@ -44,6 +45,7 @@ short_sum a b h i =
       left = value_kept (2 ^ 62) a h (omega arith);
       right = value_kept (2 ^ 62) b i (omega arith);
       both = value_kept (2 ^ 63) (a +ℤ b) sum (omega arith);
+      fits = fits_within (a +ℤ b) (within_sum (2 ^ 62) (2 ^ 62) (2 ^ 126) a b h i (omega arith));
       within = sum;
       row = row_of_equation (a +ℤ b) sum;
     }

@@ -100,8 +100,9 @@ impl Formula {
         match self {
             Formula::AtLeastZero(sum) => Ok(Formula::AtLeastZero(sum.denied(alloc)?)),
             Formula::IsZero(sum) => {
-                let below = Formula::AtLeastZero(sum.below(alloc)?);
+                let less = sum.below(alloc)?;
                 let above = Formula::AtLeastZero(sum.above(alloc)?);
+                let below = Formula::AtLeastZero(less);
                 Formula::either(alloc, below, above)
             }
             Formula::Both(f, g) => {

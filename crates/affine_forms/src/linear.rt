@@ -16,10 +16,18 @@ use std::marker::Model;
 
 /// An affine form in the making: numbers of at most 2^62 in size, and each atom once.
 /// A term that cancelled keeps its place with the coefficient 0, and takes it again where its atom comes again.
-#[derive(Drop)]
 pub struct Draft {
     constant: i128,
     terms: Terms,
+}
+
+impl Drop for Draft {
+    fn drop(self) {
+        let Self {
+            constant: _,
+            terms: _,
+        } = self;
+    }
 }
 
 impl Model for Draft {

@@ -90,8 +90,7 @@ pub fn form<R: Reader>(alloc: Global, reader: &R, e: &Ctrl) -> Result<Draft, For
         Ctrl::Stride(x, k) => reader.stride(alloc, *x, *k),
         Ctrl::Neg(a) => {
             let l = form(alloc, reader, a)?;
-            let opposite = l.negated(alloc)?;
-            Ok(opposite)
+            l.scaled(alloc, -1)
         }
         Ctrl::Add(a, b) => {
             let left = form(alloc, reader, a)?;

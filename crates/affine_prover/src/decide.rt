@@ -29,6 +29,5 @@ pub fn verdict(alloc: Global, s: &System) -> Result<Verdict, AllocError>
     let n = s.vars;
     let equations = dense_rows(alloc, n, &s.equations)?;
     let rows = dense_rows(alloc, n, &s.rows)?;
-    let v = solve(alloc, n as usize, equations, rows)?;
-    Ok(v)
+    solve(alloc, n as usize, equations, rows)
 }

@@ -67,9 +67,31 @@ fn stage(
                 return Ok(Step::Ended(Verdict::Open));
             }
             let v = cheapest(&kept, n);
-            let step = eliminate_variable(alloc, v, n, kept)?;
-            Ok(step)
+            eliminate_variable(alloc, v, n, kept)
         }
+    }
+}
+
+/// The verdict on rows over `n` variables, of which the settled ones stand first.
+fn eliminate_behind(
+    alloc: Global,
+    n: usize,
+    settled: Vec<DenseRow>,
+    rows: Vec<DenseRow>,
+) -> Result<Verdict, AllocError>
+    requires wide { AreWide n (settled.items ++ rows.items) }
+    requires settled { AreSettled settled.items }
+    ensures { IfOk result (λ v. v ≡ verdict_on_rows n (settled.items ++ rows.items)) }
+{
+    if n == 0 {
+        return match normalize(settled, rows)? {
+            Some(_kept) => Ok(Verdict::Open),
+            None => Ok(Verdict::Shown),
+        };
+    }
+    match stage(alloc, n, settled, rows)? {
+        Step::Ended(v) => Ok(v),
+        Step::Rows(free, next) => eliminate_behind(alloc, n - 1, free, next),
     }
 }
 
@@ -78,21 +100,5 @@ pub fn eliminate(alloc: Global, n: usize, rows: Vec<DenseRow>) -> Result<Verdict
     requires { AreWide n rows.items }
     ensures { IfOk result (λ v. v ≡ verdict_on_rows n rows.items) }
 {
-    let mut left = n;
-    let mut settled = Vec::new(alloc);
-    let mut rows = rows;
-    while left > 0 {
-        match stage(alloc, left, settled, rows)? {
-            Step::Ended(v) => return Ok(v),
-            Step::Rows(free, next) => {
-                settled = free;
-                rows = next;
-            }
-        }
-        left -= 1;
-    }
-    match normalize(settled, rows)? {
-        Some(_) => Ok(Verdict::Open),
-        None => Ok(Verdict::Shown),
-    }
+    eliminate_behind(alloc, n, Vec::new(alloc), rows)
 }

@@ -92,10 +92,7 @@ fn round(
                 let all = two_rows_each(alloc, es, rows)?;
                 Ok(Turn::Unsolved(all))
             }
-            Some(i) => {
-                let turn = put_in(alloc, i, n, es, rows)?;
-                Ok(turn)
-            }
+            Some(i) => put_in(alloc, i, n, es, rows),
         },
     }
 }
@@ -111,29 +108,15 @@ pub fn solve(
     requires wide_rows { AreWide n rows.items }
     ensures { IfOk result (λ v. v ≡ verdict_on n equations.items rows.items) }
 {
-    let mut left = n;
-    let mut equations = equations;
-    let mut rows = rows;
-    while left > 0 {
-        match round(alloc, left, equations, rows)? {
-            Turn::Finished(v) => return Ok(v),
-            Turn::Unsolved(rest) => {
-                let v = eliminate(alloc, left, rest)?;
-                return Ok(v);
-            }
-            Turn::Solved(others, rest) => {
-                equations = others;
-                rows = rest;
-            }
-        }
-        left -= 1;
-    }
-    match round(alloc, 0, equations, rows)? {
+    match round(alloc, n, equations, rows)? {
         Turn::Finished(v) => Ok(v),
-        Turn::Unsolved(rest) => {
-            let v = eliminate(alloc, 0, rest)?;
-            Ok(v)
+        Turn::Unsolved(rest) => eliminate(alloc, n, rest),
+        Turn::Solved(others, rest) => {
+            if n == 0 {
+                Ok(Verdict::Open)
+            } else {
+                solve(alloc, n - 1, others, rest)
+            }
         }
-        Turn::Solved(_, _) => Ok(Verdict::Open),
     }
 }

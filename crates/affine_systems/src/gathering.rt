@@ -20,10 +20,17 @@ use exo_tree::Kind;
 use std::alloc::{AllocError, Global};
 
 /// A constraint of a system: one of its case, or one that says what an atom is.
-#[derive(Drop)]
 pub enum Stated<'a> {
     Given(Constraint<'a>),
     Own(OwnRow),
+}
+
+impl Drop for Stated<'_> {
+    fn drop(self) {
+        match self {
+            Self::Given(_) | Self::Own(_) => {}
+        }
+    }
 }
 
 impl Stated<'_> {

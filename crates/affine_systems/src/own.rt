@@ -12,10 +12,18 @@ use std::alloc::{AllocError, Global};
 use std::marker::Model;
 
 /// A row that says what an atom is: its sum is at least 0.
-#[derive(Drop)]
 pub struct OwnRow {
     constant: i128,
     terms: Terms,
+}
+
+impl Drop for OwnRow {
+    fn drop(self) {
+        let Self {
+            constant: _,
+            terms: _,
+        } = self;
+    }
 }
 
 impl Model for OwnRow {

@@ -2,6 +2,7 @@
 use Rattle.std.proofs.Common.{ℕ, zero, suc, ◌+◌, ◌<◌, ◌≡◌, true, false, cond, ◌&&◌, List, [], ◌∷◌, ◌++◌, map, length, take, drop, set, get_or, ℤ, pos, unsigned_abs, Some, None, arith, ap, sym, ◌∙◌, refl, add-one}
 use Rattle.std.proofs.lemmas.Nat.Gcd.{dvd_antisymm}
 use Rattle.std.proofs.lemmas.List.Folds.{fold_stuck}
+use Rattle.std.proofs.lemmas.List.Sums.{fold_more}
 use Rattle.affine_prover.specs.RowSets.Rows.{gcd, gcd_of, weighed, weighed_lists, is_narrow_weighed}
 use Rattle.affine_prover.specs.RowSets.Rows.{are_narrow_weighed}
 use Rattle.affine_forms.specs.Bounds.{is_narrow}
@@ -16,6 +17,10 @@ use Rattle.std.proofs.lemmas.List.{take_all, drop_more, take_more_set, map_more,
 
 pub gcd-one : (a : ℕ) → gcd a 1 ≡ 1
 gcd-one a = dvd_antisymm (gcd-is a 1).1 (one-dvd (gcd a 1))
+
+pub gcd_of-more : (cs : List ℤ) (i g : ℕ) → i < length cs → g ≡ gcd_of (take i cs) →
+    gcd (unsigned_abs (get_or cs i (pos 0))) g ≡ gcd_of (take (i + 1) cs)
+gcd_of-more cs i g l e = ap (gcd (unsigned_abs (get_or cs i (pos 0)))) e ∙ sym (fold_more (λ g c. gcd (unsigned_abs c) g) 0 cs i (pos 0) l)
 
 pub gcd_of-stuck : (cs : List ℤ) (i : ℕ) → i < length cs → gcd (unsigned_abs (get_or cs i (pos 0))) (gcd_of (take i cs)) ≡ 1 → 1 ≡ gcd_of cs
 gcd_of-stuck cs i l e = fold_stuck (λ g c. gcd (unsigned_abs c) g) 1 (λ c. gcd-one (unsigned_abs c)) 0 cs i (pos 0) l e

@@ -1,7 +1,10 @@
 -- What the methods of a row need: narrow numbers stay narrow, and a row whose gcd is 0 or 1 is tight.
 use Rattle.std.proofs.Common.{ℕ, zero, suc, ◌+◌, ◌^◌, ◌<◌, ◌≤◌, ◌≡◌, ◌==◌, ◌&&◌, Bool, true, false, cond, List, [], ◌∷◌, map, length, ℤ, pos, negsuc, ◌*ℤ◌, neg_ℤ, unsigned_abs, Some, None, arith, ap, sym, subst, ◌∙◌, refl}
-use Rattle.std.specs.List.{AllByRecursion, list_all, fold, remove, position, position_or_len}
-use Rattle.std.proofs.Common.{ltb, not}
+use Rattle.std.specs.List.{AllByRecursion, list_all, list_any, flat_map, fold, remove, position, position_or_len}
+use Rattle.std.proofs.Common.{ltb, not, ◌||◌, ◌++◌, reverse, append_assoc}
+use Rattle.std.specs.Prelude.{is_some}
+use Rattle.std.proofs.lemmas.Grind.{flat_map-append}
+use Rattle.std.proofs.lemmas.List.Sorted.{IsPermutation-reverse, list_any-IsPermutation}
 use Rattle.std.specs.Int.{int_div_euclid}
 use Rattle.std.specs.Ordering.{int_eq}
 use Rattle.std.proofs.lemmas.Int.{ints}
@@ -9,11 +12,11 @@ use Rattle.std.proofs.lemmas.Bool.Decides.{nat_tests}
 use Rattle.std.proofs.lemmas.Nat.Gcd.{le_of_dvd}
 use Rattle.std.proofs.Math.Nat.{div-le_self}
 use Rattle.affine_forms.specs.Affine.{Affine}
-use Rattle.affine_prover.specs.RowSets.Shapes.{IsNarrow, AreNarrow}
+use Rattle.affine_prover.specs.RowSets.Shapes.{IsNarrow, AreNarrow, is_present}
 use Rattle.affine_forms.specs.Bounds.{is_narrow}
 use Rattle.affine_prover.specs.RowSets.Rows.{gcd, gcd_of, tightened, weighed, weighed_lists}
 use Rattle.affine_prover.specs.RowSets.Rows.{is_narrow_weighed, are_narrow_weighed, combined}
-use Rattle.affine_prover.specs.RowSets.Rows.{is_narrow_combined, same_list, without}
+use Rattle.affine_prover.specs.RowSets.Rows.{is_narrow_combined, same_list, without, negated}
 use Rattle.affine_prover.proofs.OfRowSets.Divisors.{gcd-is}
 use Rattle.affine_prover.proofs.OfRowSets.Everywhere.{both, everywhere-map}
 use Rattle.affine_prover.proofs.OfRowSets.Narrow.{some-kept, none-kept}
@@ -167,6 +170,58 @@ place-none p xs e =
     let not_below = none-kept (ltb (position_or_len p xs) (length xs)) (position_or_len p xs) e in
     let most = place-at_most p xs in
     grind (arith, nat_tests)
+
+-- a place is found where an element passes
+below-any : (p : ℤ → Bool) (xs : List ℤ) → ltb (position_or_len p xs) (length xs) ≡ list_any p xs
+below-any p [] = refl
+below-any p (x ∷ xs) = by (p x) (below-any p xs)
+  where
+    least : (m : ℕ) → ltb 0 (suc m) ≡ true
+    least m = grind (arith, nat_tests)
+
+    further : (n m : ℕ) (b : Bool) → ltb n m ≡ b → ltb (1 + n) (suc m) ≡ b
+    further n m true e = grind (arith, nat_tests)
+    further n m false e = grind (arith, nat_tests)
+
+    by : (b : Bool) → ltb (position_or_len p xs) (length xs) ≡ list_any p xs →
+        ltb (cond (not b) (1 + position_or_len p xs) 0) (suc (length xs)) ≡ (b || list_any p xs)
+    by true h = least (length xs)
+    by false h = further (position_or_len p xs) (length xs) (list_any p xs) h
+
+pub place-any : (p : ℤ → Bool) (xs : List ℤ) → is_some (position p xs) ≡ list_any p xs
+place-any p xs = by (ltb (position_or_len p xs) (length xs)) ∙ below-any p xs
+  where
+    by : (b : Bool) → is_some (cond b (Some (position_or_len p xs)) None) ≡ b
+    by true = refl
+    by false = refl
+
+-- no coefficient stands, seen from behind
+pub none-present : (cs : List ℤ) (none : Bool) → is_some (position is_present (reverse cs)) ≡ not none →
+    none ≡ list_all (λ c. int_eq c (pos 0)) cs
+none-present cs none e = twice none ∙ ap not (sym e ∙ place-any is_present (reverse cs)
+    ∙ sym (list_any-IsPermutation is_present cs (reverse cs) (IsPermutation-reverse cs))) ∙ all cs
+  where
+    twice : (b : Bool) → b ≡ not (not b)
+    twice true = refl
+    twice false = refl
+
+    all : (cs : List ℤ) → not (list_any is_present cs) ≡ list_all (λ c. int_eq c (pos 0)) cs
+    all [] = refl
+    all (c ∷ cs) = by (int_eq c (pos 0)) (all cs)
+      where
+        by : (b : Bool) → not (list_any is_present cs) ≡ list_all (λ c. int_eq c (pos 0)) cs →
+            not (not b || list_any is_present cs) ≡ (b && list_all (λ c. int_eq c (pos 0)) cs)
+        by true h = h
+        by false h = refl
+
+-- the two rows of one more equation
+pub two_more : (rows yielded all next : List Affine) (e : Affine) → next ≡ all ++ e ∷ negated e ∷ [] →
+    all ≡ rows ++ flat_map (λ e. e ∷ negated e ∷ []) yielded →
+    next ≡ rows ++ flat_map (λ e. e ∷ negated e ∷ []) (yielded ++ e ∷ [])
+two_more rows yielded all next e is so =
+    let made = flat_map (λ (e : Affine). e ∷ negated e ∷ []) yielded in
+    is ∙ ap (λ rs. rs ++ e ∷ negated e ∷ []) so ∙ append_assoc rows made (e ∷ negated e ∷ [])
+    ∙ ap (λ rs. rows ++ rs) (sym (flat_map-append (λ e. e ∷ negated e ∷ []) yielded (e ∷ [])))
 
 pub all_narrow-is : (zs : List ℤ) → list_all is_narrow zs ≡ true → AreNarrow zs
 all_narrow-is [] e = tt

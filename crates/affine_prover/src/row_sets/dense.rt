@@ -1,5 +1,5 @@
 //! Rows of a system as dense rows.
-ghost use Rattle.std.specs.Prelude.{◌≡◌, IfOk, map};
+ghost use Rattle.std.specs.Prelude.{◌≡◌, IfOk, OnOk, map, ◌++◌, ◌∷◌, []};
 ghost use Rattle.affine_forms.specs.System.{coefficient_of, below, plain_row};
 
 use crate::row_sets::row::DenseRow;
@@ -25,13 +25,22 @@ fn dense_row(alloc: Global, n: u32, row: &Row) -> Result<DenseRow, AllocError>
     Ok(DenseRow::new(row.constant, coefficients))
 }
 
+/// Appends the row with a coefficient for each of the variables `0 .. n`.
+fn push_dense(alloc: Global, n: u32, row: &Row, dense: &mut Vec<DenseRow>) -> Result<(), AllocError>
+    ensures { OnOk result (dense.new.items ≡ dense.old.items ++ plain_row n row.now ∷ []) }
+{
+    let made = dense_row(alloc, n, row)?;
+    dense.push(made)?;
+    Ok(())
+}
+
 /// The rows with a coefficient for each of the variables `0 .. n`.
 pub fn dense_rows(alloc: Global, n: u32, rows: &[Row]) -> Result<Vec<DenseRow>, AllocError>
     ensures { IfOk result (λ v. v.items ≡ map (plain_row n) rows.now) }
 {
     let mut dense = Vec::with_capacity(alloc, rows.len())?;
     for row in rows {
-        dense.push(dense_row(alloc, n, row)?)?;
+        push_dense(alloc, n, row, &mut dense)?;
     }
     Ok(dense)
 }

@@ -1,5 +1,5 @@
 //! Equations put in rows, and as rows.
-ghost use Rattle.std.specs.Prelude.{◌≡◌, ◌<◌, IfOk, Some, None, IsTrue, if◌then◌else◌, map, length, ◌++◌, ◌∷◌, []};
+ghost use Rattle.std.specs.Prelude.{◌≡◌, ◌<◌, IfOk, OnOk, Some, None, IsTrue, if◌then◌else◌, map, length, ◌++◌, ◌∷◌, []};
 ghost use Rattle.std.specs.List.{list_all, position, flat_map};
 ghost use Rattle.std.specs.Option.{option_map};
 ghost use Rattle.affine_prover.specs.RowSets.Shapes.{AreWide};
@@ -42,6 +42,16 @@ pub fn solvable(equations: &[DenseRow]) -> Option<usize>
     equations.iter().position(|e| e.has_unit())
 }
 
+/// Appends the two rows of an equation.
+fn push_both(alloc: Global, e: DenseRow, all: &mut Vec<DenseRow>) -> Result<(), AllocError>
+    ensures { OnOk result (all.new.items ≡ all.old.items ++ e ∷ negated e ∷ []) }
+{
+    let opposite = e.negated(alloc)?;
+    all.push(e)?;
+    all.push(opposite)?;
+    Ok(())
+}
+
 /// The rows, and two more for each equation.
 pub fn two_rows_each(
     alloc: Global,
@@ -52,9 +62,7 @@ pub fn two_rows_each(
 {
     let mut all = rows;
     for e in equations {
-        let opposite = e.negated(alloc)?;
-        all.push(e)?;
-        all.push(opposite)?;
+        push_both(alloc, e, &mut all)?;
     }
     Ok(all)
 }

@@ -3,8 +3,6 @@ ghost use Rattle.std.specs.Prelude.{◌≡◌, Some, None, if◌then◌else◌, 
 ghost use Rattle.std.specs.Prelude.{unsigned_abs, ◌≤◌, ◌^◌, OnSome, neg_ℤ, IsTrue, slice_index_or};
 ghost use Rattle.affine_prover.specs.RowSets.Shapes.{AreNarrow};
 ghost use Rattle.std.specs.Int.{int_div_euclid};
-ghost use Rattle.std.specs.List.{All, list_all};
-ghost use Rattle.std.specs.Ordering.{int_eq};
 ghost use Rattle.std.specs.Option.{option_map};
 ghost use Rattle.affine_forms.specs.Bounds.{is_narrow};
 ghost use Rattle.affine_prover.specs.RowSets.Rows.{gcd_of, weighed_lists, are_narrow_weighed};
@@ -34,13 +32,6 @@ pub fn divide_all(cs: &mut [i128], g: i128)
     for c in cs.iter_mut() {
         *c = floored(*c, g);
     }
-}
-
-/// Whether all coefficients are 0.
-pub fn all_zero(cs: &[i128]) -> bool
-    ensures { result ≡ list_all (λ c. int_eq c (pos 0)) cs.now }
-{
-    cs.iter().all(|c| *c == 0)
 }
 
 /// The number at a place, 0 behind the end.

@@ -12,17 +12,25 @@ ghost use Rattle.affine_prover.specs.RowSets.Rows.{unit_place, substituted, is_n
 ghost use Rattle.affine_prover.specs.RowSets.Rows.{solving_factor, negated};
 
 use crate::row_sets::list::{
-    add_times, all_zero, divide_all, gcd_of, negated_list, number_at, weighed_lists,
+    add_times, divide_all, gcd_of, negated_list, number_at, weighed_lists,
 };
 use crate::row_sets::number::weighed;
 use std::alloc::{AllocError, Global};
 use std::marker::Model;
 
 /// A constant plus one coefficient per variable, all at most 2^100 in size.
-#[derive(Drop)]
 pub struct DenseRow {
     constant: i128,
     coefficients: Vec<i128>,
+}
+
+impl Drop for DenseRow {
+    fn drop(self) {
+        let Self {
+            constant: _,
+            coefficients: _,
+        } = self;
+    }
 }
 
 impl Model for DenseRow {
@@ -77,7 +85,7 @@ impl DenseRow {
     pub fn is_constant(&self) -> bool
         ensures { result ≡ is_constant self.now }
     {
-        all_zero(&self.coefficients)
+        self.trailing().is_none()
     }
 
     /// Divides the row by the gcd of its coefficients, and rounds its constant down.
@@ -148,7 +156,7 @@ impl DenseRow {
     pub fn has_unit(&self) -> bool
         ensures { result ≡ has_unit self.now }
     {
-        self.coefficients.iter().any(|c| c.unsigned_abs() == 1)
+        self.first_unit().is_some()
     }
 
     /// The lowest variable with coefficient 1 or -1.

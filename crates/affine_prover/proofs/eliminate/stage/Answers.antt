@@ -1,5 +1,7 @@
 use Rattle.std.proofs.Common.{◌≡◌, ◌<◌, ◌++◌, sym, ap, subst, ◌∙◌, Some, None, arith, length, suc, zero, ℕ}
+use Rattle.std.specs.Prelude.{IfOk}
 use Rattle.std.specs.Option.{option_map}
+use Rattle.affine_prover.specs.Steps.{stage_of_step}
 use Rattle.std.proofs.lemmas.Bool.Decides.{nat_tests}
 use Rattle.affine_prover.specs.RowSets.Shapes.{AreWide}
 use Rattle.affine_prover.specs.Elimination.{variable_eliminated}
@@ -50,12 +52,17 @@ returns-in-None c =
     let is = onto ∙ settled-normalized settled c.args.rows.items c.requires.settled in
     record { stage = stage-none c.args.n (settled ++ c.args.rows.items) is; settled = tt }
 
-pub returns-in_ok-step-in-Some : goal.returns-in_ok-step-in-Some
-returns-in_ok-step-in-Some c =
+pub returns-else-is_empty : goal.returns-else-is_empty
+returns-else-is_empty c =
     let settled = c.args.settled.items in
     let kept = c.in-Some.kept.items in
     let onto : Some kept ≡ normalized_onto settled c.args.rows.items = sym (ap (option_map (λ v. v.items)) c.in-Some.is) ∙ c.in_ok-normalize.ensures in
     let is = onto ∙ settled-normalized settled c.args.rows.items c.requires.settled in
     let some : 0 < length kept = grind (arith, nat_tests, c.in-Some.kept.ok.0) in
     let v : c.cheapest-v.result ≡ least_at (pairs kept) c.args.n = c.cheapest-v.ensures ∙ ap (λ rs. least_at (pairs rs) c.args.n) c.deref.ensures.value in
-    record { stage = c.in_ok-step-in-Some.ensures.stage ∙ ap (λ n. variable_eliminated n kept) v ∙ stage-some c.args.n (settled ++ c.args.rows.items) kept is some; settled = c.in_ok-step-in-Some.ensures.settled }
+    record {
+      stage = subst (λ x. IfOk c.eliminate_variable.result (λ s. stage_of_step s ≡ x))
+          (ap (λ n. variable_eliminated n kept) v ∙ stage-some c.args.n (settled ++ c.args.rows.items) kept is some)
+          c.eliminate_variable.ensures.stage;
+      settled = c.eliminate_variable.ensures.settled;
+    }

@@ -1,4 +1,6 @@
-use Rattle.std.proofs.Common.{◌≡◌, sym, ap, ◌∙◌, Some, None}
+use Rattle.std.proofs.Common.{◌≡◌, sym, ap, subst, ◌∙◌, Some, None}
+use Rattle.std.specs.Prelude.{IfOk}
+use Rattle.affine_prover.specs.Steps.{round_of_turn}
 use Rattle.std.specs.Option.{option_map}
 use Rattle.std.specs.List.{position}
 use Rattle.affine_prover.specs.RowSets.Rows.{has_unit, reduced}
@@ -19,7 +21,8 @@ returns-in_ok-all-in-None-solvable c =
     let none : None ≡ position has_unit c.in-Some.es.items = c.in-None-solvable.ensures ∙ ap (position has_unit) c.deref.ensures.value in
     round-unsolved c.args.equations.items c.args.rows.items c.in-Some.es.items c.in_ok-all-in-None-solvable.all.items is (not_found has_unit c.in-Some.es.items none) c.in_ok-all-in-None-solvable.ensures
 
-pub returns-in_ok-turn-in-Some-solvable : goal.returns-in_ok-turn-in-Some-solvable
-returns-in_ok-turn-in-Some-solvable c =
+pub returns-in-Some-solvable : goal.returns-in-Some-solvable
+returns-in-Some-solvable c =
     let is : Some c.in-Some.es.items ≡ reduced c.args.equations.items = sym (ap (option_map (λ v. v.items)) c.in-Some.is) ∙ c.in_ok-reduce.ensures in
-    c.in_ok-turn-in-Some-solvable.ensures ∙ round-some c.args.equations.items c.args.rows.items c.in-Some.es.items is
+    subst (λ x. IfOk c.put_in.result (λ t. round_of_turn t ≡ x))
+    (round-some c.args.equations.items c.args.rows.items c.in-Some.es.items is) c.put_in.ensures

@@ -1,11 +1,11 @@
-use Rattle.std.proofs.Common.{◌≡◌, ◌^◌, ◌∙◌, sym, ap, refl, true, subst}
+use Rattle.std.proofs.Common.{◌≡◌, ◌^◌, ◌∙◌, sym, ap, refl, true, subst, ap₂}
 use Rattle.std.proofs.lemmas.Int.{to_z-of_z}
 use Rattle.std.specs.Int.{w128, int_div_euclid}
 use Rattle.std.specs.Int.RustNames.{FitsSigned}
 use Rattle.affine_forms.specs.Atoms.{none, divided, divides}
 use Rattle.affine_forms.specs.Forms.{is_within}
 use Rattle.affine_forms.specs.TermBounds.{joined_terms, term_if}
-use Rattle.affine_forms.specs.PlainAtoms.{plain_atom}
+use Rattle.affine_forms.specs.PlainAtoms.{plain_atom, plain_terms}
 use Rattle.affine_forms.proofs.TermLists.{made_step, made_end, divided_law}
 use Rattle.affine_forms.proofs.TermWidths.{kept_in, fits_within, within_quotient}
 use Rattle.affine_forms.proofs.atom.Terms.divided.Goals as goal
@@ -37,3 +37,9 @@ returns c =
     let fb = c.ranges.by in
     let inv = simp to_z-of_z at c.loop-w.invariant in
     made_end (divided c.args.by) refl c.deref-w-items.result.now c.loop-w.w-index c.loop-w.made (divided c.args.by c.args.self.now) c.loop-w-test.false inv
+
+pub loop-w-init : goal.loop-w-init
+loop-w-init c =
+    let fb = c.ranges.by in
+    simp to_z-of_z (ap₂ (λ m ts. joined_terms m (divided c.args.by ts)) c.new-made.ensures
+    (ap plain_terms c.deref-w-items.ensures.value ∙ c.self.view_is))

@@ -1,9 +1,11 @@
-use Rattle.std.proofs.Common.{◌^◌, refl, true, ◌*ℤ◌}
+use Rattle.std.proofs.Common.{◌^◌, refl, true, ◌*ℤ◌, ap, ap₂, ◌∙◌}
 use Rattle.std.proofs.lemmas.Int.{to_z-of_z}
 use Rattle.std.specs.Int.{w128}
 use Rattle.affine_forms.specs.Atoms.{terms_scaled}
 use Rattle.affine_forms.proofs.TermLists.{made_step, made_end, scaled_law}
 use Rattle.affine_forms.proofs.TermWidths.{kept_in, within_scaled_in, fits_within}
+use Rattle.affine_forms.specs.TermBounds.{joined_terms}
+use Rattle.affine_forms.specs.PlainAtoms.{plain_terms}
 use Rattle.affine_forms.proofs.atom.Terms.scaled.Goals as goal
 
 pub overflow_mul-by : goal.overflow_mul-by
@@ -36,3 +38,9 @@ returns c =
     let fb = c.ranges.by in
     let inv = simp to_z-of_z at c.loop-w.invariant in
     made_end (terms_scaled c.args.by) refl c.deref-w-items.result.now c.loop-w.w-index c.loop-w.made (terms_scaled c.args.by c.args.self.now) c.loop-w-test.false inv
+
+pub loop-w-init : goal.loop-w-init
+loop-w-init c =
+    let fb = c.ranges.by in
+    simp to_z-of_z (ap₂ (λ m ts. joined_terms m (terms_scaled c.args.by ts)) c.new-made.ensures
+    (ap plain_terms c.deref-w-items.ensures.value ∙ c.self.view_is))

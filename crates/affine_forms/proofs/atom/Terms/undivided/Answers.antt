@@ -1,9 +1,11 @@
-use Rattle.std.proofs.Common.{refl, not}
+use Rattle.std.proofs.Common.{refl, not, ap, ap₂, ◌∙◌}
 use Rattle.std.proofs.lemmas.Int.{to_z-of_z}
 use Rattle.std.specs.Int.{w128}
 use Rattle.affine_forms.specs.Atoms.{undivided, divides}
 use Rattle.affine_forms.proofs.TermLists.{made_step, made_end, undivided_law}
 use Rattle.affine_forms.proofs.TermWidths.{kept_in, fits_within}
+use Rattle.affine_forms.specs.TermBounds.{joined_terms}
+use Rattle.affine_forms.specs.PlainAtoms.{plain_terms}
 use Rattle.affine_forms.proofs.atom.Terms.undivided.Goals as goal
 
 pub push_if-requires : goal.push_if-requires
@@ -26,3 +28,9 @@ returns c =
     let fb = c.ranges.by in
     let inv = simp to_z-of_z at c.loop-w.invariant in
     made_end (undivided c.args.by) refl c.deref-w-items.result.now c.loop-w.w-index c.loop-w.made (undivided c.args.by c.args.self.now) c.loop-w-test.false inv
+
+pub loop-w-init : goal.loop-w-init
+loop-w-init c =
+    let fb = c.ranges.by in
+    simp to_z-of_z (ap₂ (λ m ts. joined_terms m (undivided c.args.by ts)) c.new-made.ensures
+    (ap plain_terms c.deref-w-items.ensures.value ∙ c.self.view_is))

@@ -7,6 +7,7 @@ use Rattle.affine_forms.specs.Outcomes.{Formed}
 use Rattle.affine_forms.proofs.Values.{and_parts}
 use Rattle.affine_forms.proofs.Distinct.{distinct_added}
 use Rattle.affine_forms.proofs.TermWidths.{within_le, within_from_le, within_sum, fits_within, wider}
+use Rattle.affine_forms.proofs.RowSums.{short_sum}
 use Rattle.affine_forms.proofs.linear.Draft.plus.Goals as goal
 
 pub new-requires : goal.new-requires
@@ -27,3 +28,10 @@ returns c =
     let fs = fits_within (c.self.inside.constant +ℤ c.other.inside.constant) (within_sum (2 ^ 62) (2 ^ 62) (2 ^ 126) c.self.inside.constant c.other.inside.constant short.0 other.0 (omega arith)) in
     let made = simp (to_z-of_z, c.in_ok-add.ensures) at c.new.ensures in
     subst (λ l. Formed c.new.result (is_short_form (added l c.args.other.now)) (added l c.args.other.now)) c.self.view_is (subst (λ l. Formed c.new.result (is_short_form (added (record { constant = c.self.inside.constant; terms = c.self.inside.terms }) l)) (added (record { constant = c.self.inside.constant; terms = c.self.inside.terms }) l)) c.other.view_is made)
+
+pub overflow_add-constant : goal.overflow_add-constant
+overflow_add-constant c =
+    let short = and_parts (is_short c.self.inside.constant) (are_short c.self.inside.terms) c.self.invariant.0 in
+    let other = and_parts (is_short c.other.inside.constant) (are_short c.other.inside.terms) c.other.invariant.0 in
+    let s = short_sum c.self.inside.constant c.other.inside.constant short.0 other.0 in
+    rw (s.left, s.right) s.fits

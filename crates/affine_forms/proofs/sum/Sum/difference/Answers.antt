@@ -15,3 +15,9 @@ invariant_of-result c =
     c.constant.ensures.short c.constant-2.ensures.short in
     let kept = c.in_ok-terms_left.ensures in
     (rw (s.left, s.right, s.both) s.row, kept.narrow, kept.distinct, kept.present)
+
+pub overflow_add-result : goal.overflow_add-result
+overflow_add-result c =
+    let s = short_sum c.constant.result c.constant-2.result
+    c.constant.ensures.short c.constant-2.ensures.short in
+    rw (s.left, s.right) s.fits
