@@ -53,7 +53,8 @@ fn mark_both(
 ) -> Result<(), AllocError>
     ensures { OnOk result
         (row_says row.new
-        ≡ together (row_says row.old) (reads (roots_in aliases.now) (Plus (datum a.now) (datum b.now)))) }
+        ≡ together (row_says row.old)
+        (reads (roots_in aliases.now) (Plus (datum a.now) (datum b.now)))) }
 {
     mark_reads(row, aliases, a)?;
     mark_reads(row, aliases, b)

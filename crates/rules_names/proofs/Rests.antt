@@ -1,5 +1,5 @@
 -- What is left of a list in a loop over it.
-use Rattle.std.proofs.Common.{◌≡◌, ℕ, suc, ◌+◌, ◌<◌, List, [], ◌∷◌, map, drop, get_or, length, sym, ap, ◌∙◌, add-one, drop-cons, refl, arith, ◌==◌, ◌≤◌, true, false}
+use Rattle.std.proofs.Common.{◌≡◌, ℕ, suc, ◌+◌, ◌<◌, List, [], ◌∷◌, ◌++◌, append_assoc, map, drop, get_or, length, sym, ap, ◌∙◌, add-one, drop-cons, refl, arith, ◌==◌, ◌≤◌, true, false}
 use Rattle.std.proofs.lemmas.Bool.Decides.{nat_tests}
 use Rattle.std.proofs.Math.ListN.{drop_of_length-le}
 use Rattle.text_expressions.specs.Views.{tree_of}
@@ -29,3 +29,11 @@ rest_none xs i h = ap (λ l. commas_width (map tree_of l)) (drop_of_length-le xs
 
 pub empty_rest : {A : Type 0} (xs : List A) (i : ℕ) → length xs ≤ i → drop i xs ≡ []
 empty_rest xs i h = drop_of_length-le xs h
+
+-- a loop over a list pushes what its item at k stands for
+pub pushed_on : {X Y C : Type 0} (f : Y → C) (g : X → Y) (xs : List X) (k : ℕ) (x : X) (out next whole : List C) (c : C)
+    → k < length xs → x ≡ get_or xs k x → c ≡ f (g x) → next ≡ out ++ c ∷ []
+    → out ++ map f (map g (drop k xs)) ≡ whole → next ++ map f (map g (drop (k + 1) xs)) ≡ whole
+pushed_on f g xs k x out next whole c h r e p i =
+    ap (λ l. l ++ map f (map g (drop (k + 1) xs))) (p ∙ ap (λ d. out ++ d ∷ []) e) ∙ append_assoc out (f (g x) ∷ []) (map f (map g (drop (k + 1) xs)))
+    ∙ ap (λ l. out ++ map f (map g l)) (sym (rest_of xs k x h r)) ∙ i

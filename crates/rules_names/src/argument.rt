@@ -20,7 +20,7 @@ use std::alloc::{AllocError, Global};
 use text_expressions::source::{Infix, SourceExpr};
 
 /// Why an expression in a string is refused.
-#[derive(Clone, Copy, Debug)]
+#[derive(Clone, Copy)]
 pub enum ArgError {
     Memory,
     /// It is not of the form that is asked.

@@ -6,7 +6,6 @@ ghost use Rattle.text_show.specs.ControlText.{precedence_of, in_place, control_t
 ghost use Rattle.text_show.specs.ControlText.{indices_text, access_text, window_text};
 ghost use Rattle.text_show.specs.ControlText.{condition_precedence, condition_in_place};
 ghost use Rattle.text_show.specs.ControlText.{condition_text};
-ghost use Rattle.text_show.specs.Layout.{between};
 ghost use Rattle.text_show.specs.Seen.{words_in};
 
 use crate::precedence::{COMPARISON, CONJUNCTION, DISJUNCTION, PRODUCT, SUM, UNARY};
@@ -125,7 +124,7 @@ fn put_part(out: &mut String, words: &Words, c: &Cond, place: u8) -> Result<(), 
     }
 }
 
-/// Appends two expressions with the sign of a comparison between.
+/// Appends two expressions with the sign of a comparison between, which has its spaces.
 fn put_comparison(
     out: &mut String,
     words: &Words,
@@ -136,13 +135,12 @@ fn put_comparison(
     ensures { OnOk result
         (string_bytes out.new
         ≡ string_bytes out.old
-        ++ between (control_text (words_in words.now) (control a.now)) sign.now
-        (control_text (words_in words.now) (control b.now))) }
+        ++ control_text (words_in words.now) (control a.now)
+        ++ sign.now
+        ++ control_text (words_in words.now) (control b.now)) }
 {
     put_control(out, words, a)?;
-    out.push_str(" ")?;
     out.push_str(sign)?;
-    out.push_str(" ")?;
     put_control(out, words, b)
 }
 
@@ -156,11 +154,11 @@ pub fn put_condition(out: &mut String, words: &Words, c: &Cond) -> Result<(), Al
         Cond::False => out.push_str("False"),
         Cond::Var(x) => words.put_name(out, *x),
         Cond::Field(f) => words.put_field(out, *f),
-        Cond::Lt(a, b) => put_comparison(out, words, a, "<", b),
-        Cond::Le(a, b) => put_comparison(out, words, a, "<=", b),
-        Cond::Gt(a, b) => put_comparison(out, words, a, ">", b),
-        Cond::Ge(a, b) => put_comparison(out, words, a, ">=", b),
-        Cond::Eq(a, b) => put_comparison(out, words, a, "==", b),
+        Cond::Lt(a, b) => put_comparison(out, words, a, " < ", b),
+        Cond::Le(a, b) => put_comparison(out, words, a, " <= ", b),
+        Cond::Gt(a, b) => put_comparison(out, words, a, " > ", b),
+        Cond::Ge(a, b) => put_comparison(out, words, a, " >= ", b),
+        Cond::Eq(a, b) => put_comparison(out, words, a, " == ", b),
         Cond::And(a, b) => {
             put_part(out, words, a, CONJUNCTION)?;
             out.push_str(" and ")?;

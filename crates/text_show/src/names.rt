@@ -74,8 +74,7 @@ impl<'a> ShownNames<'a> {
                 self.insert(i)?;
                 self.insert_block(b)
             }
-            Stmt::Alloc(b, _, _, _) => self.insert(b),
-            Stmt::View(b, _, _) => self.insert(b),
+            Stmt::Alloc(b, _, _, _) | Stmt::View(b, _, _) => self.insert(b),
             _ => Ok(()),
         }
     }

@@ -7,7 +7,7 @@ use Rattle.rules_names.proofs.argument.are_coordinates.Goals as goal
 
 pub loop-c-preserved : goal.loop-c-preserved
 loop-c-preserved c =
-    let first : is_coordinate_form (plain_coordinate c.c-item.result) ≡ true = cc (c.is_coordinate_form.ensures, c.if-not-is_coordinate_form.false) in
+    let first : is_coordinate_form (plain_coordinate c.c-item.result) ≡ true = sym c.is_coordinate_form.ensures ∙ c.if-not-is_coordinate_form.false in
     sym (ap (λ l. list_all is_coordinate_form (map plain_coordinate l)) (rest_of _ _ _ c.loop-c-test.true c.c-item.is) ∙ ap (λ t. t && list_all is_coordinate_form (map plain_coordinate (drop (c.loop-c.c-index + 1) c.args.list.now))) first) ∙ c.loop-c.invariant
 
 pub returns : goal.returns
@@ -15,5 +15,5 @@ returns c = sym (ap (λ l. list_all is_coordinate_form (map plain_coordinate l))
 
 pub returns-then-not-is_coordinate_form : goal.returns-then-not-is_coordinate_form
 returns-then-not-is_coordinate_form c =
-    let first : is_coordinate_form (plain_coordinate c.c-item.result) ≡ false = cc (c.is_coordinate_form.ensures, c.if-not-is_coordinate_form.true) in
+    let first : is_coordinate_form (plain_coordinate c.c-item.result) ≡ false = sym c.is_coordinate_form.ensures ∙ c.if-not-is_coordinate_form.true in
     sym (ap (λ l. list_all is_coordinate_form (map plain_coordinate l)) (rest_of _ _ _ c.loop-c-test.true c.c-item.is) ∙ ap (λ t. t && list_all is_coordinate_form (map plain_coordinate (drop (c.loop-c.c-index + 1) c.args.list.now))) first) ∙ c.loop-c.invariant

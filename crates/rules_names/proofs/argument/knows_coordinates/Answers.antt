@@ -7,7 +7,7 @@ use Rattle.rules_names.proofs.argument.knows_coordinates.Goals as goal
 
 pub loop-c-preserved : goal.loop-c-preserved
 loop-c-preserved c =
-    let first : (knows_coordinate c.args.names.now.fields.now) (plain_coordinate c.c-item.result) ≡ true = cc (c.knows_coordinate.ensures, c.if-not-knows_coordinate.false) in
+    let first : (knows_coordinate c.args.names.now.fields.now) (plain_coordinate c.c-item.result) ≡ true = sym c.knows_coordinate.ensures ∙ c.if-not-knows_coordinate.false in
     sym (ap (λ l. list_all (knows_coordinate c.args.names.now.fields.now) (map plain_coordinate l)) (rest_of _ _ _ c.loop-c-test.true c.c-item.is) ∙ ap (λ t. t && list_all (knows_coordinate c.args.names.now.fields.now) (map plain_coordinate (drop (c.loop-c.c-index + 1) c.args.list.now))) first) ∙ c.loop-c.invariant
 
 pub returns : goal.returns
@@ -15,5 +15,5 @@ returns c = sym (ap (λ l. list_all (knows_coordinate c.args.names.now.fields.no
 
 pub returns-then-not-knows_coordinate : goal.returns-then-not-knows_coordinate
 returns-then-not-knows_coordinate c =
-    let first : (knows_coordinate c.args.names.now.fields.now) (plain_coordinate c.c-item.result) ≡ false = cc (c.knows_coordinate.ensures, c.if-not-knows_coordinate.true) in
+    let first : (knows_coordinate c.args.names.now.fields.now) (plain_coordinate c.c-item.result) ≡ false = sym c.knows_coordinate.ensures ∙ c.if-not-knows_coordinate.true in
     sym (ap (λ l. list_all (knows_coordinate c.args.names.now.fields.now) (map plain_coordinate l)) (rest_of _ _ _ c.loop-c-test.true c.c-item.is) ∙ ap (λ t. t && list_all (knows_coordinate c.args.names.now.fields.now) (map plain_coordinate (drop (c.loop-c.c-index + 1) c.args.list.now))) first) ∙ c.loop-c.invariant

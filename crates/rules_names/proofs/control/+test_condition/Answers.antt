@@ -74,7 +74,7 @@ returns-in-Binary-2 t c =
     let l = c.test_control-l.ensures.tells in
     let r = c.test_control.ensures.tells in
     let joins : joins_conditions c.in-Binary-2.operator ≡ false = cc (c.in-Binary-2.operator-is, c.joins_conditions.ensures, c.if-joins_conditions.false) in
-    let sums : is_arithmetic c.in-Binary-2.operator ≡ false = cc (c.is_arithmetic.ensures, c.if-not-is_arithmetic.true) in
+    let sums : is_arithmetic c.in-Binary-2.operator ≡ false = sym c.is_arithmetic.ensures ∙ c.if-not-is_arithmetic.true in
     tells_as (condition_faults c.args.names.now.fields.now (reads c.args.may) c.args.names.now.scope.now c.args.n) (may_be_condition c.args.names.now.fields.now c.args.names.now.scope.now) _ _ _ _
     (sides _ _ _ _ _ _ c.in-Binary-2.is c.deref-in-Binary-2-2.ensures c.deref-in-Binary-2-3.ensures)
     (told_comparison _ _ _ _ c.test_control-l.result c.test_control.result _ _ _ c.in-Binary-2.operator _ _ joins sums (c.both-in-Binary-2.ensures.charge _ _ l.charge r.charge) c.both-in-Binary-2.ensures.end c.both-in-Binary-2.ensures.form l r)
